@@ -1,0 +1,5 @@
+pub mod Objections
+pub mod Rising
+pub mod Filtered
+pub mod Listed
+pub mod Faults

@@ -1,0 +1,9 @@
+//! What is selected, and why a call is refused.
+mod refusals;
+mod selections;
+mod windows;
+
+pub use refusals::Refusal;
+pub use selections::Run;
+pub use selections::Selection;
+pub use windows::Window;
