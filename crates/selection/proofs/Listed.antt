@@ -79,7 +79,7 @@ index-sound n xs h =
         (none-when _ _ (and-right (ltb 0 (suc k)) _ (lt-leb (getD xs (suc k) 0) (getD xs (suc k - 1) 0) s)), (none-when _ _ (lt-leb n (getD xs (suc k) 0) (r .1)), tt))
 
 -- what holds along a count holds at each number
-at-count : (P : ℕ → Type 0) (n k : ℕ) → All P (counting 0 n) → k < n → P k
+pub at-count : (P : ℕ → Type 0) (n k : ℕ) → All P (counting 0 n) → k < n → P k
 at-count P n k h l =
     let size = length-counting 0 n in
     let e : getD (counting 0 n) k 0 ≡ k = getD-counting 0 n k 0 l ∙ omega arith in

@@ -1,0 +1,15 @@
+//! What moves elements.
+mod elements;
+mod slice;
+
+pub use elements::Element;
+pub use elements::Event;
+pub use elements::EventElement;
+pub use elements::F32Element;
+pub use elements::U16Element;
+pub use elements::U32Element;
+pub use elements::U64Element;
+pub use elements::U8Element;
+pub use elements::sparse_limit;
+pub use slice::copy_at;
+pub use slice::copy_part;

@@ -1,0 +1,108 @@
+-- What a fetch asks and leaves.
+use Prim.Native.Nat.{ℕ, zero, suc, _+_, _-_, _*_, _/_, _%_, _≤_, _<_}
+use mathlib.Core.Path.{_≡_, refl, sym, ap, ap₂, _∙_}
+use mathlib.Core.List.{List, [], _∷_, _++_, map}
+use native.Mathlib.Omega.{arith}
+use native.Mathlib.Nat.{add-assoc}
+use lib.Dec.{leb, ltb}
+use lib.ListN.{length, take, drop, getD}
+use Rattle.std.specs.Iters.{counting}
+use Rattle.std.specs.shelf.Lists.{All}
+use Rattle.std.specs.declared.option.Option.{Option}
+use Rattle.std.specs.declared.option.Option.the-variants.{Some, None}
+use Rattle.std.specs.declared.result.Result.the-variants.{Ok}
+use Rattle.std.proofs.shelf.Counted.{length-counting, getD-counting}
+use Rattle.std.proofs.shelf.Elements.{all-weaker, all-getD, all-from-getD}
+use Rattle.std.proofs.shelf.Tests.{leb-false, ltb-false, lt-leb, le-ltb}
+use Rattle.std.proofs.shelf.Ways.{tells}
+use Rattle.selection.specs.declared.refusals.Refusal.{Refusal}
+use Rattle.selection.specs.declared.refusals.Refusal.the-variants.{Output, Beyond, Index, Spent}
+use Rattle.selection.specs.Refusals.{when, orElse, first, firstOf, answered, settled}
+use Rattle.selection.proofs.Objections.{none-first, none-when, none-each, none-of, when-none, first-none, ok-answered}
+use Rattle.selection.proofs.Rising.{rising-all, rising-counting}
+use Rattle.selection.proofs.Listed.{at-count}
+use Rattle.kernels.specs.Moved.{gather, splice}
+use Rattle.kernels.proofs.Gathered.{gather-counting}
+use Rattle.source.specs.Fetched.{Held, Whole, chunksOf, delivered, fetchFault, fetched, holding, indexFault, objections, placeIn, wholeChunk}
+
+pub index-past : (is : List ℕ) (k : ℕ) → 1024 ≤ getD is k 0 → indexFault is k ≡ Some (Index k)
+index-past is k h = grind (arith, tells)
+
+pub index-fine : (is : List ℕ) (k : ℕ) → getD is k 0 < 1024 → indexFault is k ≡ None
+index-fine is k h = grind (arith, tells)
+
+-- indices below 1,024 are not refused
+pub indices-inside : (is : List ℕ) → All (λ i. i < 1024) is → first (indexFault is) (counting 0 (length is)) ≡ None
+indices-inside is h =
+    none-first (indexFault is) (counting 0 (length is))
+    (all-weaker (λ k. (0 ≤ k) × (k < length is)) (λ k. indexFault is k ≡ None) (λ k l. index-fine is k (all-getD (λ i. i < 1024) is k 0 (l .1) h)) (counting 0 (length is)) (rising-all 0 (length is) (counting 0 (length is)) (rising-counting 0 (length is) (length is) (omega arith))))
+
+pub inside-indices : (is : List ℕ) → first (indexFault is) (counting 0 (length is)) ≡ None → All (λ i. i < 1024) is
+inside-indices is e =
+    all-from-getD (λ i. i < 1024) is 0 (λ k l. leb-false 1024 (getD is k 0) (when-none _ _ (at-count (λ k. indexFault is k ≡ None) (length is) k (first-none (indexFault is) (counting 0 (length is)) e) l)))
+
+pub whole-length : length wholeChunk ≡ 1024
+unfolding wholeChunk
+whole-length = length-counting 0 1024
+
+pub whole-below : All (λ i. i < 1024) wholeChunk
+unfolding wholeChunk
+whole-below = all-weaker (λ k. (0 ≤ k) × (k < 1024)) (λ k. k < 1024) (λ k l. l .1) (counting 0 1024) (rising-all 0 1024 (counting 0 1024) (rising-counting 0 1024 1024 (omega arith)))
+
+pub whole-inside : first (indexFault wholeChunk) (counting 0 (length wholeChunk)) ≡ None
+whole-inside = indices-inside wholeChunk whole-below
+
+-- a fetch that nothing stands against
+pub record Admits (chunks left room c : ℕ) (is : List ℕ) : Type 0 where
+  pub chunk : c < chunks
+  pub indices : All (λ i. i < 1024) is
+  pub places : length is ≤ room
+  pub payable : length is ≤ left
+
+pub admitted : (chunks left room c : ℕ) (is : List ℕ) → firstOf (objections chunks left room c is) ≡ None → Admits chunks left room c is
+admitted chunks left room c is e =
+    let h = none-each (objections chunks left room c is) e in
+    record {
+      chunk = leb-false chunks c (when-none _ _ (h .0));
+      indices = inside-indices is (h .1 .0);
+      places = ltb-false room (length is) (when-none _ _ (h .1 .1 .0));
+      payable = ltb-false left (length is) (when-none _ _ (h .1 .1 .1 .0));
+    }
+
+pub admits : (chunks left room c : ℕ) (is : List ℕ) → Admits chunks left room c is → firstOf (objections chunks left room c is) ≡ None
+admits chunks left room c is h =
+    none-of (objections chunks left room c is) (
+      none-when _ _ (lt-leb chunks c (h .chunk)),
+      (
+        indices-inside is (h .indices),
+        (none-when _ _ (le-ltb room (length is) (h .places)), (none-when _ _ (le-ltb left (length is) (h .payable)), tt)),
+      ),
+    )
+
+module _ {T : Type 0} (h : Held T) (c : ℕ) (is : List ℕ) where
+  pub fetched-ok : fetchFault h c is ≡ None → fetched h c is ≡ delivered h c is
+  unfolding fetched
+  fetched-ok e = ap (λ o. settled o h (delivered h c is)) e
+
+  pub fetched-err : (r : Refusal) → fetchFault h c is ≡ Some r → fetched h c is ≡ h
+  unfolding fetched
+  fetched-err r e = ap (λ o. settled o h (delivered h c is)) e
+
+  -- what a source shows of a fetch that it carried out
+  pub carried-out : (chunks left : ℕ) (out : List T) → chunks ≡ chunksOf (h .readings) → firstOf (objections chunks (h .allowance) (length (h .output)) c is) ≡ None → left ≡ h .allowance - length is → out ≡ splice (h .output) 0 (gather (h .readings) (map (placeIn c) is)) → (Ok (tt {0}) ≡ answered (fetchFault h c is) (tt {0})) × (holding (h .readings) left out ≡ fetched h c is)
+  unfolding fetchFault
+  carried-out chunks left out n ok l o =
+      let none : fetchFault h c is ≡ None = ap (λ m. firstOf (objections m (h .allowance) (length (h .output)) c is)) (sym n) ∙ ok in
+      (ok-answered (fetchFault h c is) (tt {0}) none, ap₂ (λ a b. holding (h .readings) a b) l o ∙ sym (fetched-ok none))
+
+-- the readings of a chunk, one after another
+pub whole-places : (c : ℕ) → map (placeIn c) wholeChunk ≡ counting (1024 * c) 1024
+unfolding wholeChunk
+whole-places c = shift 1024 0 ∙ ap (λ a. counting a 1024) (omega arith)
+  where
+    shift : (n a : ℕ) → map (placeIn c) (counting a n) ≡ counting (1024 * c + a) n
+    shift zero a = refl
+    shift (suc n) a = ap (λ xs. placeIn c a ∷ xs) (shift n (a + 1) ∙ ap (λ b. counting b n) (sym (add-assoc (1024 * c) a 1)))
+
+pub whole-gathered : {T : Type 0} (xs : List T) (c : ℕ) → gather xs (map (placeIn c) wholeChunk) ≡ take 1024 (drop (1024 * c) xs)
+whole-gathered xs c = ap (gather xs) (whole-places c) ∙ gather-counting xs 1024 (1024 * c)
