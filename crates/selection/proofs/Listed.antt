@@ -26,9 +26,9 @@ use Rattle.selection.specs.declared.refusals.Refusal.the-variants.{Order, Past
 use Rattle.selection.specs.declared.selections.Selection.{Selection}
 use Rattle.selection.specs.declared.selections.Selection.the-variants.{Bitmap, Indices, Runs}
 use Rattle.selection.specs.Refusals.{when, first, firstOf, answered}
-use Rattle.selection.specs.Selected.{windowBit, windowFault, among, inRun, covered, indexFault, indicesFault, runFault, runsFault, noRun, long, positions, countOf, selectionFault, extent}
+use Rattle.selection.specs.Selected.{Rising, windowBit, windowFault, among, inRun, covered, indexFault, indicesFault, runFault, runsFault, noRun, long, positions, countOf, selectionFault, extent}
 use Rattle.selection.proofs.Objections.{none-each, none-of, none-when, none-first, when-none, first-none, ok-answered}
-use Rattle.selection.proofs.Rising.{Rising, rising-from, rising-within, rising-all, rising-counting, rising-getD, rising-step}
+use Rattle.selection.proofs.Rising.{rising-from, rising-within, rising-all, rising-counting, rising-getD, rising-step}
 use Rattle.selection.proofs.Filtered.{kept-same}
 
 among-below : (lo hi k : ℕ) (xs : List ℕ) → Rising lo hi xs → k < lo → among k xs ≡ false

@@ -10,7 +10,7 @@ use Rattle.std.specs.declared.option.Option.{Option}
 use Rattle.std.specs.declared.option.Option.the-variants.{Some, None}
 use lib.Dec.{ltb}
 use Rattle.std.proofs.shelf.Tests.{le-ltb}
-use Rattle.std.specs.declared.result.Result.the-variants.{Ok}
+use Rattle.std.specs.declared.result.Result.the-variants.{Ok, Err}
 use Rattle.selection.specs.declared.refusals.Refusal.{Refusal}
 use Rattle.selection.specs.declared.refusals.Refusal.the-variants.{Long}
 use Rattle.selection.specs.Refusals.{when, orElse, firstOf, first, answered}
@@ -80,3 +80,11 @@ ok-answered o x e = sym (ap (λ p. answered p x) e)
 pub same-answer : {X : Type 0} (o : Option Refusal) (x y : X) → (o ≡ None → x ≡ y) → answered o x ≡ answered o y
 same-answer None x y e = ap Ok (e refl)
 same-answer (Some r) x y e = refl
+
+pub answered-err : {X : Type 0} (o : Option Refusal) (x : X) (e : Refusal) → answered o x ≡ Err e → o ≡ Some e
+answered-err None x e h = let z : _≡_ {A = ℕ} 0 1 = cc in absurd (omega arith)
+answered-err (Some r) x e h = cc
+
+pub answered-value : {X : Type 0} (o : Option Refusal) (x y : X) → answered o x ≡ Ok y → x ≡ y
+answered-value None x y h = cc
+answered-value (Some r) x y h = let z : _≡_ {A = ℕ} 0 1 = cc in absurd (omega arith)

@@ -8,11 +8,7 @@ use lib.ListN.{length, getD}
 use Rattle.std.specs.Iters.{counting}
 use Rattle.std.specs.shelf.Lists.{kept-by, All}
 use Rattle.std.proofs.shelf.Elements.{all-weaker}
-
--- strictly ascending, from lo on and below hi
-abbrev pub Rising : ℕ → ℕ → List ℕ → Type 0
-Rising lo hi [] = Unit {0}
-Rising lo hi (x ∷ xs) = (lo ≤ x) × (x < hi) × Rising (suc x) hi xs
+use Rattle.selection.specs.Selected.{Rising}
 
 pub rising-from : (lo lower hi : ℕ) (xs : List ℕ) → lower ≤ lo → Rising lo hi xs → Rising lower hi xs
 rising-from lo lower hi [] l h = tt

@@ -1,5 +1,5 @@
 -- Which positions a selection picks, and what is wrong with one.
-use Prim.Native.Nat.{ℕ, _+_, _-_, _*_, _/_, _%_, _^_}
+use Prim.Native.Nat.{ℕ, suc, _+_, _-_, _*_, _/_, _%_, _^_, _<_, _≤_}
 use mathlib.Core.Bool.{Bool, true, false, _&&_, _||_}
 use mathlib.Core.List.{List, [], _∷_}
 use lib.Dec.{eqb, leb, ltb}
@@ -16,6 +16,11 @@ use Rattle.selection.specs.declared.selections.Selection.the-variants.{Bitmap,
 use Rattle.selection.specs.declared.refusals.Refusal.{Refusal}
 use Rattle.selection.specs.declared.refusals.Refusal.the-variants.{Long, Short, Order, Past}
 use Rattle.selection.specs.Refusals.{when, first, firstOf}
+
+-- strictly ascending, from lo on and below hi
+abbrev pub Rising : ℕ → ℕ → List ℕ → Type 0
+Rising lo hi [] = Unit {0}
+Rising lo hi (x ∷ xs) = (lo ≤ x) × (x < hi) × Rising (suc x) hi xs
 
 -- bit k of bytes, the lowest of each first
 abbrev pub bit : List ℕ → ℕ → Bool

@@ -1,0 +1,24 @@
+-- Sums over chunks.
+use Prim.Native.Nat.{ℕ, zero, suc, _+_, _-_, _*_, _/_, _≤_, _<_}
+use mathlib.Core.Path.{_≡_, refl, sym, ap, _∙_}
+use mathlib.Core.Bool.{Bool, true, false, cond}
+use native.Mathlib.Omega.{arith}
+use lib.Dec.{eqb, ltb}
+use Rattle.std.proofs.shelf.Ways.{tells}
+use Rattle.chunked.specs.Prices.{sumBelow}
+
+pub sum-add : (f h : ℕ → ℕ) (n : ℕ) → sumBelow (λ c. f c + h c) n ≡ sumBelow f n + sumBelow h n
+sum-add f h zero = refl
+sum-add f h (suc n) = let before = sum-add f h n in omega arith
+
+pub sum-same : (f h : ℕ → ℕ) (n : ℕ) → ((c : ℕ) → c < n → f c ≡ h c) → sumBelow f n ≡ sumBelow h n
+sum-same f h zero each = refl
+sum-same f h (suc n) each =
+    let before = sum-same f h n (λ c l. each c (omega arith)) in
+    let here = each n (omega arith) in
+    omega arith
+
+-- a sum with one number in it
+pub sum-one : (c v n : ℕ) → sumBelow (λ d. cond (eqb c d) v 0) n ≡ cond (ltb c n) v 0
+sum-one c v zero = grind (arith, tells)
+sum-one c v (suc n) = let before = sum-one c v n in grind (arith, tells)

@@ -1,0 +1,127 @@
+//! What a push will answer, settled before anything is fetched.
+ghost use mathlib.Core.Path.{_≡_};
+ghost use mathlib.Core.List.{map};
+ghost use Prim.Native.Nat.{ℕ, _<_, _≤_};
+ghost use lib.ListN.{length, getD};
+ghost use Rattle.selection.specs.declared.selections.Selection.the-variants.{Indices};
+ghost use Rattle.selection.specs.Refusals.{answered, first};
+ghost use Rattle.selection.specs.Selected.{Rising};
+ghost use Rattle.chunked.specs.Prices.{price};
+ghost use Rattle.chunked.specs.Pushes.{answer, fee as feeUnder, grantFault, moved, pastSource, roomFault};
+use selection::Refusal;
+use selection::Selection;
+use source::CHUNK;
+
+/// A selection, and what is added to each of its positions.
+#[derive(Clone, Copy)]
+pub struct Push<'a> {
+    pub offset: u64,
+    pub selection: Selection<'a>,
+}
+
+/// What an accepted push did: how many values it wrote, and what it paid.
+#[derive(Clone, Copy, PartialEq, Eq, Debug)]
+pub struct Receipt {
+    pub count: u64,
+    pub fee: u64,
+}
+
+/// What a push is measured against.
+#[derive(Clone, Copy)]
+pub struct Terms {
+    /// The sparse limit of the element type.
+    pub limit: u64,
+    /// The chunks of the source.
+    pub chunks: u64,
+    /// The allowance left.
+    pub left: u64,
+    /// The free places of the output.
+    pub free: u64,
+    /// The places of scratch.
+    pub scratch: u64,
+}
+
+impl Terms {
+    /// Refuses an offset that is too large, or a scratch that is too small.
+    fn check_room(&self, offset: u64) -> Result<(), Refusal>
+        ensures { λ r. ⌜ r ≡ answered (roomFault (now (self .entry) .scratch) offset) tt ⌝ }
+    {
+        if offset > CHUNK {
+            return Err(Refusal::Offset);
+        }
+        if self.scratch < CHUNK {
+            return Err(Refusal::Scratch);
+        }
+        Ok(())
+    }
+
+    /// The receipt for so many values at such a fee, unless the output or the allowance is short.
+    fn grant(&self, count: u64, fee: u64) -> Result<Receipt, Refusal>
+        ensures { λ r. ⌜ r ≡ answered (grantFault (now (self .entry)) count fee) (record { count = count; fee = fee }) ⌝ }
+    {
+        if self.free < count {
+            return Err(Refusal::Output);
+        }
+        if self.left < fee {
+            return Err(Refusal::Spent { place: fee });
+        }
+        Ok(Receipt { count, fee })
+    }
+}
+
+/// What `n` readings of one chunk cost.
+pub(crate) fn chunk_price(limit: u64, n: u64) -> u64
+    ensures { λ r. ⌜ r ≡ price limit n ⌝ }
+{
+    if n <= limit { n } else { CHUNK }
+}
+
+/// The place of the first index from `from` on that is not below `bound`.
+pub(crate) fn end_below(indices: &[u64], from: usize, bound: u64) -> usize
+    requires { ⌜ from ≤ length (now indices) ⌝ }
+    ensures within { λ r. ⌜ from ≤ r ⌝ ∗ ⌜ r ≤ length (now (indices .entry)) ⌝ }
+    ensures below { λ r. ⌜ ((k : ℕ) → from ≤ k → k < r → getD (now (indices .entry)) k 0 < bound) ⌝ }
+    ensures past { λ r. ⌜ (r < length (now (indices .entry)) → bound ≤ getD (now (indices .entry)) r 0) ⌝ }
+{
+    for k in from..indices.len() {
+        if indices[k] >= bound {
+            return k;
+        }
+    }
+    indices.len()
+}
+
+/// What ascending indices cost, or the first chunk past the source.
+fn price_indices(terms: &Terms, offset: u64, indices: &[u64]) -> Result<u64, Refusal>
+    requires small { ⌜ offset ≤ 1024 ⌝ }
+    requires rising { ⌜ Rising 0 16777216 (now indices) ⌝ }
+    ensures { λ r. ⌜ r ≡ answered (first (pastSource (now (terms .entry) .chunks)) (map (moved offset) (now (indices .entry)))) (feeUnder (now (terms .entry)) (map (moved offset) (now (indices .entry)))) ⌝ }
+{
+    let mut fee = 0;
+    let mut i = 0;
+    while i < indices.len() {
+        let chunk = (indices[i] + offset) / CHUNK;
+        if chunk >= terms.chunks {
+            return Err(Refusal::Beyond { place: chunk });
+        }
+        let end = end_below(indices, i, (chunk + 1) * CHUNK - offset);
+        fee += chunk_price(terms.limit, (end - i) as u64);
+        i = end;
+    }
+    Ok(fee)
+}
+
+/// What a push of an index list will answer.
+pub(crate) fn settle_indices(
+    terms: &Terms,
+    offset: u64,
+    indices: &[u64],
+    len: u64,
+) -> Result<Receipt, Refusal>
+    ensures { λ r. ⌜ r ≡ answer (now (terms .entry)) (record { offset = offset; selection = Indices (indices .entry) len }) ⌝ }
+{
+    Selection::Indices { indices, len }.check()?;
+    terms.check_room(offset)?;
+    let fee = price_indices(terms, offset, indices)?;
+    terms.grant(indices.len() as u64, fee)
+}
