@@ -1,3 +1,5 @@
 pub mod Sums
 pub mod Cuts
 pub mod Settled
+pub mod Fetching
+pub mod Serving

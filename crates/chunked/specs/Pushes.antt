@@ -114,10 +114,10 @@ served L s ps = record {
 unfoldable pub next : {T : Type 0} → ℕ → State T → Push → State T
 next L s p = settled (refusal (termsOf L s) p) s (served L s (places p))
 
--- ascending places of one chunk, that the terms allow
+-- ascending places of one chunk, at least one, that the terms allow
 pub record Servable (t : Terms) (c : ℕ) (ps : List ℕ) : Type 0 where
+  pub some : 0 < length ps
   pub chunk : c < t .chunks
-  pub inside : All (λ p. p / 1024 ≡ c) ps
   pub rising : Rising (1024 * c) (1024 * c + 1024) ps
   pub fits : length ps ≤ t .free
   pub payable : price (t .limit) (length ps) ≤ t .left

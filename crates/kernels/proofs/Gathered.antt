@@ -7,7 +7,7 @@ use lib.ListN.{length, take, drop, getD, set}
 use Rattle.std.specs.Iters.{counting}
 use Rattle.std.specs.shelf.Lists.{All, joined}
 use Rattle.std.proofs.shelf.Elements.{all-getD, all-map, all-take}
-use Rattle.std.proofs.shelf.Lists.{append-nil, length-map, length-take-le, map-more, take-at, drop-at, append-assoc, drop-drop, drop-more, take-more, set-at, length-take, length-drop, length-append}
+use Rattle.std.proofs.shelf.Lists.{append-nil, drop-append-le, drop-take, take-append-drop, take-append-le, take-take, length-map, length-take-le, map-more, take-at, drop-at, append-assoc, drop-drop, drop-more, take-more, set-at, length-take, length-drop, length-append}
 use Rattle.kernels.specs.Moved.{valueAt, gather, splice}
 
 -- each place inside gives one value
@@ -97,3 +97,59 @@ copy-more src out f is k y h l inside e =
     let more : gather src (map f (take (k + 1) is)) ≡ vs ++ (y ∷ []) =
         ap (gather src) (map-more f is k 0 h) ∙ gather-append src (map f (take k is)) (place ∷ []) ∙ ap (λ ws. vs ++ ws) (append-nil (valueAt src place) ∙ one) in
     ap (λ m. set (splice out 0 vs) m y) (sym zero-add′) ∙ splice-more out 0 k vs y size (omega arith) ∙ ap (splice out 0) (sym more)
+
+-- two writes, one after the other
+pub splice-splice : {T : Type 0} (xs : List T) (at n : ℕ) (vs ws : List T) → length vs ≡ n → at ≤ length xs → splice (splice xs at vs) (at + n) ws ≡ splice xs at (vs ++ ws)
+splice-splice xs at n vs ws e h =
+    let m = length ws in
+    let front : length (take at xs ++ vs) ≡ at + n = simp (length-append, length-take) (omega arith) in
+    let shape : splice xs at vs ≡ (take at xs ++ vs) ++ drop (at + n) xs = ap (λ k. take at xs ++ (vs ++ drop (at + k) xs)) e ∙ sym (append-assoc (take at xs) vs (drop (at + n) xs)) in
+    let past : drop (at + n + m) (splice xs at vs) ≡ drop (at + n + m) xs =
+        sym (drop-drop m (at + n) (splice xs at vs))
+        ∙ ap (λ zs. drop m (drop (at + n) zs)) shape
+        ∙ ap (drop m) (drop-at (take at xs ++ vs) (drop (at + n) xs) (at + n) front)
+        ∙ drop-drop m (at + n) xs in
+    let all : at + length (vs ++ ws) ≡ at + n + m = simp length-append (omega arith) in
+    ap (λ zs. zs ++ (ws ++ drop (at + n + m) (splice xs at vs))) (take-splice xs at n vs h e)
+    ∙ ap (λ zs. (take at xs ++ vs) ++ (ws ++ zs)) past
+    ∙ append-assoc (take at xs) vs (ws ++ drop (at + n + m) xs)
+    ∙ ap (λ zs. take at xs ++ zs) (sym (append-assoc vs ws (drop (at + n + m) xs)) ∙ ap (λ k. (vs ++ ws) ++ drop k xs) (sym all))
+
+-- a write over an earlier one that is no longer
+pub splice-over : {T : Type 0} (xs vs ws : List T) → length vs ≤ length ws → splice (splice xs 0 vs) 0 ws ≡ splice xs 0 ws
+splice-over xs vs ws h =
+    let m : ℕ = length ws - length vs in
+    let n = 0 + length vs in
+    let on : n + m ≡ 0 + length ws = omega arith in
+    let front : length vs ≡ n = omega arith in
+    let same : drop (0 + length ws) (splice xs 0 vs) ≡ drop (0 + length ws) xs =
+        ap (λ k. drop k (vs ++ drop n xs)) (sym on)
+        ∙ sym (drop-drop m n (vs ++ drop n xs))
+        ∙ ap (drop m) (drop-at vs (drop n xs) n front)
+        ∙ drop-drop m n xs
+        ∙ ap (λ k. drop k xs) on in
+    ap (λ zs. ws ++ zs) same
+
+pub splice-none : {T : Type 0} (xs : List T) (at : ℕ) → splice xs at [] ≡ xs
+splice-none xs at = let e : at + 0 ≡ at = omega arith in ap (λ n. take at xs ++ drop n xs) e ∙ take-append-drop at xs
+
+-- a value of a part that was written from the first place on
+valueAt-part : {T : Type 0} (xs out : List T) (b n j : ℕ) → j < n → b + n ≤ length xs → valueAt (splice out 0 (take n (drop b xs))) j ≡ valueAt xs (b + j)
+valueAt-part xs out b n j h l =
+    let zs = drop b xs in
+    let v = take n zs in
+    let rest = drop (0 + length v) out in
+    let size : length v ≡ n = simp (length-take, length-drop) (omega arith) in
+    let m : ℕ = n - j in
+    let on : j + m ≡ n = omega arith in
+    let part : drop j v ≡ take m (drop j zs) = ap (λ k. drop j (take k zs)) (sym on) ∙ drop-take j m zs in
+    let some : 1 ≤ length (drop j v) = simp length-drop (omega arith) in
+    ap (take 1) (drop-append-le j v rest (omega arith))
+    ∙ take-append-le 1 (drop j v) rest some
+    ∙ ap (take 1) part
+    ∙ take-take 1 m (drop j zs) (omega arith)
+    ∙ ap (take 1) (drop-drop j b xs)
+
+pub gather-part : {T : Type 0} (xs out : List T) (b n : ℕ) (js : List ℕ) → All (λ j. j < n) js → b + n ≤ length xs → gather (splice out 0 (take n (drop b xs))) js ≡ gather xs (map (λ j. b + j) js)
+gather-part xs out b n [] h l = refl
+gather-part xs out b n (j ∷ js) h l = ap₂ (λ v vs. v ++ vs) (valueAt-part xs out b n j (h .0) l) (gather-part xs out b n js (h .1) l)

@@ -1,6 +1,6 @@
 -- Ascending lists of numbers.
 use Prim.Native.Nat.{ℕ, zero, suc, _+_, _-_, _*_, _/_, _≤_, _<_}
-use mathlib.Core.Path.{_≡_, refl, sym, ap, _∙_}
+use mathlib.Core.Path.{_≡_, refl, sym, ap, ap₂, _∙_}
 use mathlib.Core.Bool.{Bool, true, false, cond, _&&_}
 use mathlib.Core.List.{List, [], _∷_, _++_, map}
 use native.Mathlib.Omega.{arith}
@@ -59,3 +59,14 @@ pub rising-step : (lo hi : ℕ) (xs : List ℕ) (k : ℕ) → Rising lo hi xs �
 rising-step lo hi [] k h l = absurd (omega arith)
 rising-step lo hi (x ∷ xs) zero h l = rising-getD (suc x) hi xs zero (h .2) (omega arith) .0
 rising-step lo hi (x ∷ xs) (suc k) h l = rising-step (suc x) hi xs k (h .2) (omega arith)
+
+-- as many ascending numbers as there is room for are all of them
+pub rising-full : (n lo hi : ℕ) (ps : List ℕ) → hi ≡ lo + n → Rising lo hi ps → length ps ≡ n → ps ≡ counting lo n
+rising-full zero lo hi [] e h l = refl
+rising-full zero lo hi (p ∷ ps) e h l = absurd (omega arith)
+rising-full (suc n) lo hi [] e h l = absurd (omega arith)
+rising-full (suc n) lo hi (p ∷ ps) e h l =
+    let most = rising-length (suc p) hi ps (h .2) in
+    let here : p ≡ lo = omega arith in
+    let next : lo + 1 ≡ suc p = omega arith in
+    ap₂ (λ (x : ℕ) (xs : List ℕ). x ∷ xs) here (rising-full n (lo + 1) hi ps (omega arith) (rw next (h .2)) (omega arith))
