@@ -16,19 +16,19 @@ use Rattle.std.specs.declared.option.Option.the-variants.{Some, None}
 use Rattle.std.proofs.shelf.Counted.{length-counting}
 use Rattle.std.proofs.shelf.Lists.{append-assoc, append-nil, drop-drop, drop-more, getD-take, getD-map, length-append, length-map, length-take, length-take-le, take-append-drop}
 use Rattle.std.proofs.shelf.Edits.{getD-between, length-between}
-use Rattle.std.proofs.shelf.Elements.{all-weaker, all-from-getD, all-getD, kept-by-append}
-use Rattle.std.proofs.shelf.Tests.{cases-eq, cases-lt, eq-eqb, ne-eqb, lt-ltb, le-ltb, lt-leb, le-leb}
+use Rattle.std.proofs.shelf.Elements.{all-weaker, all-from-getD, all-getD, kept-by-append, kept-by-passes}
+use Rattle.std.proofs.shelf.Tests.{eqb-true, cases-eq, cases-lt, eq-eqb, ne-eqb, lt-ltb, le-ltb, lt-leb, le-leb}
 use Rattle.std.proofs.shelf.Ways.{tells}
 use Rattle.selection.specs.declared.refusals.Refusal.the-variants.{Beyond}
 use Rattle.selection.specs.Refusals.{first, orElse, when}
 use Rattle.selection.specs.Selected.{Rising, among}
 use Rattle.selection.proofs.Objections.{none-when}
 use Rattle.selection.proofs.Filtered.{kept-same}
-use Rattle.selection.proofs.Listed.{among-rising}
-use Rattle.selection.proofs.Rising.{rising-all, rising-counting, rising-getD, rising-step}
+use Rattle.selection.proofs.Listed.{among-rising, rising-by-places}
+use Rattle.selection.proofs.Rising.{rising-above, rising-all, rising-below, rising-counting, rising-kept, rising-length, rising-step}
 use Rattle.chunked.specs.Prices.{chunkPlaces, chunkPrice, compacted, compactsChunk, feeOf, inChunk, lastCompacted, lastOf, price, sumBelow}
 use Rattle.chunked.specs.Pushes.{moved, pastSource}
-use Rattle.chunked.proofs.Sums.{sum-add, sum-same, sum-one}
+use Rattle.chunked.proofs.Sums.{price-mono, sum-add, sum-le, sum-same, sum-one}
 
 -- what stands before place i lies in earlier chunks than what stands there
 abbrev pub Parted : List ℕ → ℕ → Type 0
@@ -258,3 +258,47 @@ pub past-here : (chunks : ℕ) (ps : List ℕ) (i c : ℕ) → i < length ps →
 past-here chunks ps i c h e l =
     let test : leb chunks (getD ps i 0 / 1024) ≡ true = le-leb chunks (getD ps i 0 / 1024) (omega arith) in
     ap (first (pastSource chunks)) (drop-more ps i 0 h) ∙ rw test (ap (λ d. Some (Beyond d)) (sym e))
+
+-- a chunk has at most 1,024 of ascending places
+pub chunk-most : (lo hi : ℕ) (ps : List ℕ) → Rising lo hi ps → (c : ℕ) → length (chunkPlaces ps c) ≤ 1024
+chunk-most lo hi ps h c =
+    let ks = chunkPlaces ps c in
+    let r = rising-kept (inChunk c) lo hi ps h in
+    let inside = kept-by-passes (inChunk c) ps in
+    let low = all-weaker _ (λ x. 1024 * c ≤ x) (λ x e. omega (arith, eqb-true (x / 1024) c e)) ks inside in
+    let high = all-weaker _ (λ x. x < 1024 * c + 1024) (λ x e. omega (arith, eqb-true (x / 1024) c e)) ks inside in
+    let n = rising-length (1024 * c) (1024 * c + 1024) ks (rising-below (1024 * c) hi (1024 * c + 1024) ks (rising-above lo hi (1024 * c) ks r low) high) in
+    omega arith
+
+-- the first of ascending places never cost more than all
+pub fee-part : (L n lo hi : ℕ) (ps : List ℕ) (j : ℕ) → Rising lo hi ps → feeOf L n (take j ps) ≤ feeOf L n ps
+unfolding feeOf
+fee-part L n lo hi ps j up =
+    sum-le (chunkPrice L (take j ps)) (chunkPrice L ps) n (λ d _. price-mono L (length (chunkPlaces (take j ps) d)) (length (chunkPlaces ps d)) (fewer d) (chunk-most lo hi ps up d))
+  where
+    fewer : (d : ℕ) → length (chunkPlaces (take j ps) d) ≤ length (chunkPlaces ps d)
+    fewer d =
+        let both : length (chunkPlaces ps d) ≡ length (chunkPlaces (take j ps) d) + length (chunkPlaces (drop j ps) d) = ap (λ xs. length (chunkPlaces xs d)) (sym (take-append-drop j ps)) ∙ ap length (kept-by-append (inChunk d) (take j ps) (drop j ps)) ∙ length-append (chunkPlaces (take j ps) d) (chunkPlaces (drop j ps) d) in
+        omega arith
+
+-- the places of a cut ascend within its chunk
+pub cut-rises : (lo hi : ℕ) (ps : List ℕ) (i j c : ℕ) → Rising lo hi ps → Cut ps i j c → Rising (1024 * c) (1024 * c + 1024) (between i j ps)
+cut-rises lo hi ps i j c up k =
+    rising-by-places (1024 * c) (1024 * c + 1024) (between i j ps) (λ h. rw (read 0 h) (k .low (i + 0) (omega arith) (under 0 h))) (λ m h. rw (read m h) (k .high (i + m) (omega arith) (under m h))) step
+  where
+    under : (m : ℕ) → m < length (between i j ps) → i + m < j
+    under m h = let size = length-between ps i j (k .within) in omega arith
+
+    read : (m : ℕ) → m < length (between i j ps) → getD (between i j ps) m 0 ≡ getD ps (i + m) 0
+    read m h = getD-between ps i j m 0 (under m h)
+
+    step : (m : ℕ) → suc m < length (between i j ps) → getD (between i j ps) m 0 < getD (between i j ps) (suc m) 0
+    step m h =
+        let a = read m (omega arith) in
+        let b = read (suc m) h in
+        let u = under (suc m) h in
+        let w = k .within in
+        let on : i + suc m ≡ suc (i + m) = omega arith in
+        let b′ : getD (between i j ps) (suc m) 0 ≡ getD ps (suc (i + m)) 0 = rw on at b in
+        let s = rising-step lo hi ps (i + m) up (omega arith) in
+        rw (a, b′) s

@@ -1,6 +1,6 @@
 -- What a walk over ascending indices has settled so far.
 use Prim.Native.Nat.{ℕ, zero, suc, _+_, _-_, _*_, _/_, _≤_, _<_}
-use mathlib.Core.Path.{_≡_, refl, sym, ap, _∙_}
+use mathlib.Core.Path.{_≡_, refl, sym, ap, ap₂, _∙_}
 use mathlib.Core.List.{List, [], _∷_, _++_, map}
 use mathlib.Core.Bool.{cond}
 use native.Mathlib.Omega.{arith}
@@ -8,25 +8,26 @@ use native.Mathlib.Nat.{add-comm}
 use denote.Ref.{RefT, now}
 use lib.Dec.{leb, ltb}
 use lib.ListN.{length, take, drop, getD}
+use Rattle.std.specs.shelf.Lists.{between}
 use Rattle.std.specs.declared.option.Option.{Option}
 use Rattle.std.specs.declared.option.Option.the-variants.{Some, None}
-use Rattle.std.proofs.shelf.Lists.{getD-map, length-map, take-all, drop-all}
+use Rattle.std.proofs.shelf.Lists.{getD-map, length-map, take-all, take-map, drop-all, drop-map}
 use Rattle.std.proofs.shelf.Ways.{tells}
 use Rattle.selection.specs.declared.refusals.Refusal.{Refusal}
 use Rattle.selection.specs.declared.refusals.Refusal.the-variants.{Beyond, Offset, Scratch}
 use Rattle.selection.specs.declared.selections.Selection.the-variants.{Indices}
 use Rattle.std.specs.declared.result.Result.the-variants.{Ok, Err}
-use Rattle.selection.specs.Refusals.{answered, first, firstOf, when}
+use Rattle.selection.specs.Refusals.{answered, first, firstOf, settled, when}
 use Rattle.selection.specs.Selected.{Rising, indicesFault, long, selectionFault}
 use Rattle.std.proofs.shelf.Tests.{ltb-false}
-use Rattle.selection.proofs.Objections.{none-each, when-none}
+use Rattle.selection.proofs.Objections.{answered-err, answered-ok, answered-value, none-each, when-none}
 use Rattle.selection.proofs.Listed.{index-rises, indices-pick}
 use Rattle.selection.proofs.Rising.{rising-within, rising-shifted, rising-getD, rising-length}
 use Rattle.chunked.specs.declared.settle.Push.{Push}
 use Rattle.chunked.specs.declared.settle.Receipt.{Receipt}
 use Rattle.chunked.specs.declared.settle.Terms.{Terms}
 use Rattle.chunked.specs.Prices.{feeOf, price}
-use Rattle.chunked.specs.Pushes.{answer, declined, fee, grantFault, misformed, moved, pastSource, places, receipt, roomFault}
+use Rattle.chunked.specs.Pushes.{State, Store, answer, declined, fee, grantFault, misformed, moreWritten, moved, next, pastSource, places, receipt, refusal, roomFault, served, serving, storeOf, termsOf}
 use Rattle.chunked.proofs.Cuts.{Cut, Parted, cut, fee-cut, past-cut, past-here}
 
 -- the places of some indices at an offset
@@ -134,3 +135,39 @@ pub roomy : (scratch offset : ℕ) → roomFault scratch offset ≡ None → (of
 roomy scratch offset e =
     let h = none-each (when (ltb 1024 offset) Offset ∷ when (ltb scratch 1024) Scratch ∷ []) e in
     (ltb-false 1024 offset (when-none _ _ (h .0)), ltb-false scratch 1024 (when-none _ _ (h .1 .0)))
+
+-- a part of some indices
+pub between-at : (offset : ℕ) (is : List ℕ) (i j : ℕ) → at offset (between i j is) ≡ between i j (at offset is)
+between-at offset is i j = sym (ap (take (j - i)) (drop-map (moved offset) i is) ∙ take-map (moved offset) (j - i) (drop i is))
+
+-- the state after a push, by its answer
+module _ {T : Type 0} (L : ℕ) (s : State T) (p : Push) where
+  pub refused-next : (e : Refusal) → answer (termsOf L s) p ≡ Err e → s ≡ next L s p
+  unfolding answer next
+  refused-next e h = sym (ap (λ o. settled o s (served L s (places p))) (answered-err (refusal (termsOf L s) p) (receipt (termsOf L s) (places p)) e h))
+
+  pub record Accepted (r : Receipt) : Type 0 where
+    pub formed : selectionFault (p .selection) ≡ None
+    pub roomy : roomFault (length (s .scratch)) (p .offset) ≡ None
+    pub allowed : declined (termsOf L s) (places p) ≡ None
+    pub gives : r ≡ receipt (termsOf L s) (places p)
+    pub after : next L s p ≡ served L s (places p)
+
+  pub accepted : (r : Receipt) → answer (termsOf L s) p ≡ Ok r → Accepted r
+  unfolding answer next misformed
+  accepted r h =
+      let none = answered-ok (refusal (termsOf L s) p) (receipt (termsOf L s) (places p)) r h in
+      let parts = none-each (misformed (length (s .scratch)) p ∷ declined (termsOf L s) (places p) ∷ []) none in
+      let form = none-each (selectionFault (p .selection) ∷ roomFault (length (s .scratch)) (p .offset) ∷ []) (parts .0) in
+      record {
+        formed = form .0;
+        roomy = form .1 .0;
+        allowed = parts .1 .0;
+        gives = sym (answered-value (refusal (termsOf L s) p) (receipt (termsOf L s) (places p)) r h);
+        after = ap (λ o. settled o s (served L s (places p))) none;
+      }
+
+-- a push that was served, with its receipt on the totals
+pub served-by : {T : Type 0} (L : ℕ) (s : State T) (ps : List ℕ) (h : Store T) (r : Receipt) → h ≡ serving L (storeOf s) (s .written) ps → r ≡ receipt (termsOf L s) ps → moreWritten s h (r .count) (r .fee) ≡ served L s ps
+unfolding served
+served-by L s ps h r e f = ap₂ (λ x q. moreWritten s x (q .count) (q .fee)) e f

@@ -5,7 +5,7 @@ use mathlib.Core.Bool.{Bool, true, false, cond}
 use native.Mathlib.Omega.{arith}
 use lib.Dec.{eqb, ltb}
 use Rattle.std.proofs.shelf.Ways.{tells}
-use Rattle.chunked.specs.Prices.{sumBelow}
+use Rattle.chunked.specs.Prices.{price, sumBelow}
 
 pub sum-add : (f h : ℕ → ℕ) (n : ℕ) → sumBelow (λ c. f c + h c) n ≡ sumBelow f n + sumBelow h n
 sum-add f h zero = refl
@@ -22,3 +22,13 @@ sum-same f h (suc n) each =
 pub sum-one : (c v n : ℕ) → sumBelow (λ d. cond (eqb c d) v 0) n ≡ cond (ltb c n) v 0
 sum-one c v zero = grind (arith, tells)
 sum-one c v (suc n) = let before = sum-one c v n in grind (arith, tells)
+
+pub sum-le : (f h : ℕ → ℕ) (n : ℕ) → ((c : ℕ) → c < n → f c ≤ h c) → sumBelow f n ≤ sumBelow h n
+sum-le f h zero each = omega arith
+sum-le f h (suc n) each =
+    let before = sum-le f h n (λ c l. each c (omega arith)) in
+    let here = each n (omega arith) in
+    omega arith
+
+pub price-mono : (L m n : ℕ) → m ≤ n → n ≤ 1024 → price L m ≤ price L n
+price-mono L m n h k = grind (arith, tells)

@@ -64,6 +64,49 @@ receipt t ps = record { count = length ps; fee = fee t ps }
 unfoldable pub answer : Terms → Push → Answer
 answer t p = answered (refusal t p) (receipt t (places p))
 
+-- what a source, an output and a scratch hold
+pub record Store (T : Type 0) : Type 0 where
+  pub readings : List T
+  pub allowance : ℕ
+  pub output : List T
+  pub scratch : List T
+
+-- what a store offers to a push that writes from a place on, under the sparse limit L
+abbrev pub offered : {T : Type 0} → ℕ → Store T → ℕ → Terms
+offered L h at = record {
+  limit = L;
+  chunks = chunksOf (h .readings);
+  left = h .allowance;
+  free = length (h .output) - at;
+  scratch = length (h .scratch);
+}
+
+-- scratch with a chunk over its first places, if there is one
+abbrev pub overlaid : {T : Type 0} → List T → List T → Option ℕ → List T
+overlaid xs aside None = aside
+overlaid xs aside (Some c) = splice aside 0 (take 1024 (drop (1024 * c) xs))
+
+-- the store after some places were served, with the output written from a place on
+unfoldable pub serving : {T : Type 0} → ℕ → Store T → ℕ → List ℕ → Store T
+serving L h at ps = record {
+  readings = h .readings;
+  allowance = h .allowance - feeOf L (chunksOf (h .readings)) ps;
+  output = splice (h .output) at (gather (h .readings) ps);
+  scratch = overlaid (h .readings) (h .scratch) (lastCompacted L (chunksOf (h .readings)) ps);
+}
+
+-- ascending places of one chunk, at least one, that the terms allow
+pub record Servable (t : Terms) (c : ℕ) (ps : List ℕ) : Type 0 where
+  pub some : 0 < length ps
+  pub chunk : c < t .chunks
+  pub rising : Rising (1024 * c) (1024 * c + 1024) ps
+  pub fits : length ps ≤ t .free
+  pub payable : price (t .limit) (length ps) ≤ t .left
+  pub room : 1024 ≤ t .scratch
+
+abbrev pub storing : {T : Type 0} → List T → ℕ → List T → List T → Store T
+storing xs left out aside = record { readings = xs; allowance = left; output = out; scratch = aside }
+
 -- what a filter, its source, its output and its scratch hold
 pub record State (T : Type 0) : Type 0 where
   pub readings : List T
@@ -84,41 +127,28 @@ stateOf readings allowance f out aside = record {
   scratch = aside;
 }
 
--- what a state offers a push, under the sparse limit L
-abbrev pub termsOf : {T : Type 0} → ℕ → State T → Terms
-termsOf L s = record {
-  limit = L;
-  chunks = chunksOf (s .readings);
-  left = s .allowance;
-  free = length (s .output) - s .written;
-  scratch = length (s .scratch);
-}
+abbrev pub storeOf : {T : Type 0} → State T → Store T
+storeOf s = storing (s .readings) (s .allowance) (s .output) (s .scratch)
 
--- scratch with a chunk over its first places, if there is one
-abbrev pub overlaid : {T : Type 0} → List T → List T → Option ℕ → List T
-overlaid xs aside None = aside
-overlaid xs aside (Some c) = splice aside 0 (take 1024 (drop (1024 * c) xs))
+-- what a state offers to a push
+abbrev pub termsOf : {T : Type 0} → ℕ → State T → Terms
+termsOf L s = offered L (storeOf s) (s .written)
+
+-- the state with another store, so many more values written and so much more paid
+abbrev pub moreWritten : {T : Type 0} → State T → Store T → ℕ → ℕ → State T
+moreWritten s h count cost = record {
+  readings = h .readings;
+  allowance = h .allowance;
+  written = (s .written + count) % 2 ^ 64;
+  fees = (s .fees + cost) % 2 ^ 64;
+  output = h .output;
+  scratch = h .scratch;
+}
 
 -- the state after some places were served
 unfoldable pub served : {T : Type 0} → ℕ → State T → List ℕ → State T
-served L s ps = record {
-  readings = s .readings;
-  allowance = s .allowance - feeOf L (chunksOf (s .readings)) ps;
-  written = (s .written + length ps) % 2 ^ 64;
-  fees = (s .fees + feeOf L (chunksOf (s .readings)) ps) % 2 ^ 64;
-  output = splice (s .output) (s .written) (gather (s .readings) ps);
-  scratch = overlaid (s .readings) (s .scratch) (lastCompacted L (chunksOf (s .readings)) ps);
-}
+served L s ps = moreWritten s (serving L (storeOf s) (s .written) ps) (length ps) (feeOf L (chunksOf (s .readings)) ps)
 
 -- the state that a push leaves
 unfoldable pub next : {T : Type 0} → ℕ → State T → Push → State T
 next L s p = settled (refusal (termsOf L s) p) s (served L s (places p))
-
--- ascending places of one chunk, at least one, that the terms allow
-pub record Servable (t : Terms) (c : ℕ) (ps : List ℕ) : Type 0 where
-  pub some : 0 < length ps
-  pub chunk : c < t .chunks
-  pub rising : Rising (1024 * c) (1024 * c + 1024) ps
-  pub fits : length ps ≤ t .free
-  pub payable : price (t .limit) (length ps) ≤ t .left
-  pub room : 1024 ≤ t .scratch

@@ -1,26 +1,16 @@
 //! A filter over a source.
 ghost use mathlib.Core.Path.{_≡_};
-ghost use mathlib.Core.List.{map};
-ghost use Prim.Native.Nat.{_-_, _≤_};
-ghost use lib.ListN.{length};
-ghost use Rattle.std.specs.declared.option.Option.the-variants.{None};
+ghost use Prim.Native.Nat.{_-_};
 ghost use Rattle.selection.specs.declared.selections.Selection.the-variants.{Indices};
-ghost use Rattle.selection.specs.Selected.{Rising};
 ghost use Rattle.kernels.specs.Moved.{sparseLimit};
 ghost use Rattle.source.specs.Fetched.{chunksOf};
-ghost use Rattle.chunked.specs.Pushes.{Servable, answer, declined, moved, next, served, stateOf, termsOf};
-use super::serve::fetch_chunk;
-use super::serve::fetch_indices;
-use super::serve::shift_all;
+ghost use Rattle.chunked.specs.Pushes.{answer, next, stateOf, termsOf};
+use super::serve::serve_indices;
 use super::settle::Receipt;
 use super::settle::Terms;
-use super::settle::chunk_price;
-use super::settle::end_below;
 use super::settle::settle_indices;
-use kernels::copy_at;
 use kernels::sparse_limit;
 use selection::Refusal;
-use source::CHUNK;
 use source::ChunkDecoder;
 
 /// Picks readings from a source that it owns, and keeps two totals.
@@ -75,34 +65,38 @@ impl<D: ChunkDecoder> ChunkedFilter<D> {
         source
     }
 
-    /// Serves the indices of one chunk: one by one, straight to the output, or through scratch.
-    fn serve_chunk_indices(
+    /// What a push is measured against, with an output and a scratch of such lengths.
+    fn terms(&self, output: usize, scratch: usize) -> Terms
+        ensures { λ r. ⌜ r ≡ record { limit = (sparseLimit (Item·Element .bytes)); chunks = chunksOf (D·ChunkDecoder .readings (now (self .entry) .source)); left = D·ChunkDecoder .allowance (now (self .entry) .source); free = output - now (self .entry) .written; scratch = scratch } ⌝ }
+    {
+        Terms {
+            limit: sparse_limit::<D::Item>(),
+            chunks: self.source.chunks(),
+            left: self.source.left(),
+            free: (output as u64).saturating_sub(self.written),
+            scratch: scratch as u64,
+        }
+    }
+
+    /// Writes the readings at ascending indices, each moved by the offset, to the next places of
+    /// `output`, and pays for them; or refuses, and leaves everything as it was.
+    pub fn push_mask_indices(
         &mut self,
-        chunk: u64,
         offset: u64,
         indices: &[u64],
+        len: u64,
         output: &mut [D::Item],
         scratch: &mut [D::Item],
-    )
-        requires { ⌜ Servable (termsOf (sparseLimit (Item·Element .bytes)) (stateOf (D·ChunkDecoder .readings) (D·ChunkDecoder .allowance) (now self) (now output) (now scratch))) chunk (map (moved offset) (now indices)) ⌝ }
-        ensures { λ _. ⌜ stateOf (D·ChunkDecoder .readings) (D·ChunkDecoder .allowance) (now (self .exit)) (now (output .exit)) (now (scratch .exit)) ≡ served (sparseLimit (Item·Element .bytes)) (stateOf (D·ChunkDecoder .readings) (D·ChunkDecoder .allowance) (now (self .entry)) (now (output .entry)) (now (scratch .entry))) (map (moved offset) (now (indices .entry))) ⌝ }
+    ) -> Result<Receipt, Refusal>
+        ensures value { λ r. ⌜ r ≡ answer (termsOf (sparseLimit (Item·Element .bytes)) (stateOf (D·ChunkDecoder .readings) (D·ChunkDecoder .allowance) (now (self .entry)) (now (output .entry)) (now (scratch .entry)))) (record { offset = offset; selection = Indices (indices .entry) len }) ⌝ }
+        ensures after { λ _. ⌜ stateOf (D·ChunkDecoder .readings) (D·ChunkDecoder .allowance) (now (self .exit)) (now (output .exit)) (now (scratch .exit)) ≡ next (sparseLimit (Item·Element .bytes)) (stateOf (D·ChunkDecoder .readings) (D·ChunkDecoder .allowance) (now (self .entry)) (now (output .entry)) (now (scratch .entry))) (record { offset = offset; selection = Indices (indices .entry) len }) ⌝ }
     {
-        let n = indices.len() as u64;
-        let limit = sparse_limit::<D::Item>();
+        let terms = self.terms(output.len(), scratch.len());
+        let receipt = settle_indices(&terms, offset, indices, len)?;
         let at = self.written as usize;
-        let base = chunk * CHUNK;
-        if n <= limit {
-            let mut buffer = [0u64; 160];
-            let picked = &mut buffer[..];
-            shift_all(indices, offset, base, picked);
-            fetch_indices(&mut self.source, chunk, &picked[0..indices.len()], output, at);
-        } else if n == CHUNK {
-            fetch_chunk(&mut self.source, chunk, output, at);
-        } else {
-            fetch_chunk(&mut self.source, chunk, scratch, 0);
-            copy_at(scratch, indices, offset, base, &mut output[at..]);
-        }
-        self.written = self.written.wrapping_add(n);
-        self.fees = self.fees.wrapping_add(chunk_price(limit, n));
+        serve_indices(&mut self.source, offset, indices, output, at, scratch);
+        self.written = self.written.wrapping_add(receipt.count);
+        self.fees = self.fees.wrapping_add(receipt.fee);
+        Ok(receipt)
     }
 }

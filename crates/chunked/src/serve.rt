@@ -5,8 +5,14 @@ ghost use Prim.Native.Nat.{_-_, _≤_};
 ghost use lib.ListN.{length, drop};
 ghost use Rattle.std.specs.declared.option.Option.the-variants.{None};
 ghost use Rattle.std.specs.shelf.Lists.{All};
-ghost use Rattle.kernels.specs.Moved.{Within, gather, shifted, splice};
+ghost use Rattle.selection.specs.Selected.{Rising};
+ghost use Rattle.kernels.specs.Moved.{Within, gather, shifted, sparseLimit, splice};
+ghost use Rattle.chunked.specs.Pushes.{Servable, declined, moved, offered, serving, storing};
 ghost use Rattle.source.specs.Fetched.{fetchFault, holding, placeIn, wholeChunk};
+use super::settle::end_below;
+use kernels::copy_at;
+use kernels::sparse_limit;
+use source::CHUNK;
 use source::ChunkDecoder;
 
 /// Fetches a chunk to the places of `output` from `at` on.
@@ -50,5 +56,59 @@ pub(crate) fn shift_all(indices: &[u64], up: u64, down: u64, out: &mut [u64])
 {
     for k in 0..indices.len() {
         out[k] = indices[k] + up - down;
+    }
+}
+
+/// Serves the indices of one chunk, with the output written from `at` on: one by one, straight to
+/// the output, or through scratch.
+pub(crate) fn serve_chunk_indices<D: ChunkDecoder>(
+    source: &mut D,
+    chunk: u64,
+    offset: u64,
+    indices: &[u64],
+    output: &mut [D::Item],
+    at: usize,
+    scratch: &mut [D::Item],
+)
+    requires { ⌜ Servable (offered (sparseLimit (Item·Element .bytes)) (storing (D·ChunkDecoder .readings (now source)) (D·ChunkDecoder .allowance (now source)) (now output) (now scratch)) at) chunk (map (moved offset) (now indices)) ⌝ }
+    ensures { λ _. ⌜ storing (D·ChunkDecoder .readings (now (source .exit))) (D·ChunkDecoder .allowance (now (source .exit))) (now (output .exit)) (now (scratch .exit)) ≡ serving (sparseLimit (Item·Element .bytes)) (storing (D·ChunkDecoder .readings (now (source .entry))) (D·ChunkDecoder .allowance (now (source .entry))) (now (output .entry)) (now (scratch .entry))) at (map (moved offset) (now (indices .entry))) ⌝ }
+{
+    let n = indices.len() as u64;
+    let base = chunk * CHUNK;
+    let limit = sparse_limit::<D::Item>();
+    if n <= limit {
+        let mut buffer = [0u64; 160];
+        let picked = &mut buffer[..];
+        shift_all(indices, offset, base, picked);
+        fetch_indices(source, chunk, &picked[0..indices.len()], output, at);
+    } else if n == CHUNK {
+        fetch_chunk(source, chunk, output, at);
+    } else {
+        fetch_chunk(source, chunk, scratch, 0);
+        copy_at(scratch, indices, offset, base, &mut output[at..]);
+    }
+}
+
+/// Serves ascending indices chunk by chunk, with the output written from `at` on.
+pub(crate) fn serve_indices<D: ChunkDecoder>(
+    source: &mut D,
+    offset: u64,
+    indices: &[u64],
+    output: &mut [D::Item],
+    at: usize,
+    scratch: &mut [D::Item],
+)
+    requires small { ⌜ offset ≤ 1024 ⌝ }
+    requires rising { ⌜ Rising 0 16777216 (now indices) ⌝ }
+    requires granted { ⌜ declined (offered (sparseLimit (Item·Element .bytes)) (storing (D·ChunkDecoder .readings (now source)) (D·ChunkDecoder .allowance (now source)) (now output) (now scratch)) at) (map (moved offset) (now indices)) ≡ None ⌝ }
+    requires room { ⌜ 1024 ≤ length (now scratch) ⌝ }
+    ensures { λ _. ⌜ storing (D·ChunkDecoder .readings (now (source .exit))) (D·ChunkDecoder .allowance (now (source .exit))) (now (output .exit)) (now (scratch .exit)) ≡ serving (sparseLimit (Item·Element .bytes)) (storing (D·ChunkDecoder .readings (now (source .entry))) (D·ChunkDecoder .allowance (now (source .entry))) (now (output .entry)) (now (scratch .entry))) at (map (moved offset) (now (indices .entry))) ⌝ }
+{
+    let mut i = 0;
+    while i < indices.len() {
+        let chunk = (indices[i] + offset) / CHUNK;
+        let end = end_below(indices, i, (chunk + 1) * CHUNK - offset);
+        serve_chunk_indices(source, chunk, offset, &indices[i..end], output, at + i, scratch);
+        i = end;
     }
 }

@@ -70,7 +70,7 @@ impl Terms {
 }
 
 /// What `n` readings of one chunk cost.
-pub(crate) fn chunk_price(limit: u64, n: u64) -> u64
+fn chunk_price(limit: u64, n: u64) -> u64
     ensures { λ r. ⌜ r ≡ price limit n ⌝ }
 {
     if n <= limit { n } else { CHUNK }

@@ -85,7 +85,7 @@ at-count P n k h l =
     let e : getD (counting 0 n) k 0 ≡ k = getD-counting 0 n k 0 l ∙ omega arith in
     subst P e (all-getD P (counting 0 n) k 0 (omega arith) h)
 
-rising-by-places : (lo hi : ℕ) (xs : List ℕ) → (0 < length xs → lo ≤ getD xs 0 0) → ((k : ℕ) → k < length xs → getD xs k 0 < hi) → ((k : ℕ) → suc k < length xs → getD xs k 0 < getD xs (suc k) 0) → Rising lo hi xs
+pub rising-by-places : (lo hi : ℕ) (xs : List ℕ) → (0 < length xs → lo ≤ getD xs 0 0) → ((k : ℕ) → k < length xs → getD xs k 0 < hi) → ((k : ℕ) → suc k < length xs → getD xs k 0 < getD xs (suc k) 0) → Rising lo hi xs
 rising-by-places lo hi [] a b c = tt
 rising-by-places lo hi (x ∷ xs) a b c = (a (omega arith), b 0 (omega arith), rising-by-places (suc x) hi xs (λ l. c 0 (omega arith)) (λ k l. b (suc k) (omega arith)) (λ k l. c (suc k) (omega arith)))
 
