@@ -14,6 +14,7 @@ use selection::Refusal;
 use source::ChunkDecoder;
 
 /// Picks readings from a source that it owns, and keeps two totals.
+#[derive(Drop)]
 pub struct ChunkedFilter<D> {
     source: D,
     written: u64,

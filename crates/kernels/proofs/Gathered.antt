@@ -153,3 +153,10 @@ valueAt-part xs out b n j h l =
 pub gather-part : {T : Type 0} (xs out : List T) (b n : ℕ) (js : List ℕ) → All (λ j. j < n) js → b + n ≤ length xs → gather (splice out 0 (take n (drop b xs))) js ≡ gather xs (map (λ j. b + j) js)
 gather-part xs out b n [] h l = refl
 gather-part xs out b n (j ∷ js) h l = ap₂ (λ v vs. v ++ vs) (valueAt-part xs out b n j (h .0) l) (gather-part xs out b n js (h .1) l)
+
+-- a value of the first n
+pub valueAt-take : {T : Type 0} (xs : List T) (n p : ℕ) → p < n → valueAt (take n xs) p ≡ valueAt xs p
+valueAt-take xs n p h =
+    let m : ℕ = n - p in
+    let on : p + m ≡ n = omega arith in
+    ap (λ k. take 1 (drop p (take k xs))) (sym on) ∙ ap (take 1) (drop-take p m xs) ∙ take-take 1 m (drop p xs) (omega arith)

@@ -1,5 +1,5 @@
 -- What a fetch asks and leaves.
-use Prim.Native.Nat.{ℕ, zero, suc, _+_, _-_, _*_, _/_, _%_, _≤_, _<_}
+use Prim.Native.Nat.{ℕ, min, zero, suc, _+_, _-_, _*_, _/_, _%_, _≤_, _<_}
 use mathlib.Core.Path.{_≡_, refl, sym, ap, ap₂, _∙_}
 use mathlib.Core.List.{List, [], _∷_, _++_, map}
 use native.Mathlib.Omega.{arith}
@@ -11,8 +11,9 @@ use Rattle.std.specs.shelf.Lists.{All}
 use Rattle.std.specs.declared.option.Option.{Option}
 use Rattle.std.specs.declared.option.Option.the-variants.{Some, None}
 use Rattle.std.specs.declared.result.Result.the-variants.{Ok}
+use Rattle.std.proofs.shelf.Lists.{take-all}
 use Rattle.std.proofs.shelf.Counted.{length-counting, getD-counting}
-use Rattle.std.proofs.shelf.Elements.{all-weaker, all-getD, all-from-getD}
+use Rattle.std.proofs.shelf.Elements.{all-map, all-weaker, all-getD, all-from-getD}
 use Rattle.std.proofs.shelf.Tests.{leb-false, ltb-false, lt-leb, le-ltb}
 use Rattle.std.proofs.shelf.Ways.{tells}
 use Rattle.selection.specs.declared.refusals.Refusal.{Refusal}
@@ -22,8 +23,8 @@ use Rattle.selection.proofs.Objections.{none-first, none-when, none-each, none-
 use Rattle.selection.proofs.Rising.{rising-all, rising-counting}
 use Rattle.selection.proofs.Listed.{at-count}
 use Rattle.kernels.specs.Moved.{gather, splice}
-use Rattle.kernels.proofs.Gathered.{gather-counting}
-use Rattle.source.specs.Fetched.{Held, Whole, chunksOf, delivered, fetchFault, fetched, holding, indexFault, objections, placeIn, wholeChunk}
+use Rattle.kernels.proofs.Gathered.{gather-counting, valueAt-take}
+use Rattle.source.specs.Fetched.{Held, Whole, chunksOf, delivered, fetchFault, fetched, holding, indexFault, objections, placeIn, wholeChunk, wholeChunks, wholePart}
 
 pub index-past : (is : List ℕ) (k : ℕ) → 1024 ≤ getD is k 0 → indexFault is k ≡ Some (Index k)
 index-past is k h = grind (arith, tells)
@@ -106,3 +107,19 @@ whole-places c = shift 1024 0 ∙ ap (λ a. counting a 1024) (omega arith)
 
 pub whole-gathered : {T : Type 0} (xs : List T) (c : ℕ) → gather xs (map (placeIn c) wholeChunk) ≡ take 1024 (drop (1024 * c) xs)
 whole-gathered xs c = ap (gather xs) (whole-places c) ∙ gather-counting xs 1024 (1024 * c)
+
+-- a slice of whole chunks is all of its whole chunks
+pub part-all : {T : Type 0} (xs : List T) → length xs % 1024 ≡ 0 → chunksOf xs ≤ 16384 → wholePart xs ≡ xs
+unfolding wholePart
+part-all xs even few = take-all (1024 * wholeChunks xs) xs (omega arith)
+
+-- values of the whole chunks are those of the slice
+pub part-gather : {T : Type 0} (xs : List T) (ps : List ℕ) → All (λ p. p < 1024 * wholeChunks xs) ps → gather (wholePart xs) ps ≡ gather xs ps
+unfolding wholePart
+part-gather xs [] h = refl
+part-gather xs (p ∷ ps) h = ap₂ (λ v vs. v ++ vs) (valueAt-take xs (1024 * wholeChunks xs) p (h .0)) (part-gather xs ps (h .1))
+
+pub part-chunk : {T : Type 0} (xs : List T) (c : ℕ) → c < wholeChunks xs → gather (wholePart xs) (map (placeIn c) wholeChunk) ≡ take 1024 (drop (1024 * c) xs)
+part-chunk xs c h =
+    part-gather xs (map (placeIn c) wholeChunk) (all-map (λ p. p < 1024 * wholeChunks xs) (placeIn c) wholeChunk (all-weaker (λ i. i < 1024) (λ i. placeIn c i < 1024 * wholeChunks xs) (λ i l. omega arith) wholeChunk whole-below))
+    ∙ whole-gathered xs c

@@ -1,10 +1,10 @@
 -- What a source holds, and what a fetch does.
-use Prim.Native.Nat.{ℕ, _+_, _-_, _*_, _/_, _%_, _≤_}
+use Prim.Native.Nat.{ℕ, min, _+_, _-_, _*_, _/_, _%_, _≤_}
 use mathlib.Core.Path.{_≡_}
 use mathlib.Core.List.{List, [], _∷_, map}
 use mathlib.Core.Bool.{not, _||_}
 use lib.Dec.{eqb, leb, ltb}
-use lib.ListN.{length, getD}
+use lib.ListN.{length, getD, take}
 use Rattle.std.specs.Iters.{counting}
 use Rattle.std.specs.declared.option.Option.{Option}
 use Rattle.selection.specs.declared.refusals.Refusal.{Refusal}
@@ -64,6 +64,13 @@ delivered h c is = record {
 unfoldable pub fetched : {T : Type 0} → Held T → ℕ → List ℕ → Held T
 fetched h c is = settled (fetchFault h c is) h (delivered h c is)
 
--- why a slice is no table
+-- the readings of a slice: its whole chunks, and not too many of them
+abbrev pub wholeChunks : {T : Type 0} → List T → ℕ
+wholeChunks xs = min (chunksOf xs) 16384
+
+unfoldable pub wholePart : {T : Type 0} → List T → List T
+wholePart xs = take (1024 * wholeChunks xs) xs
+
+-- why a slice is no table: it would have other readings
 abbrev pub tableFault : {T : Type 0} → List T → Option Refusal
 tableFault xs = when (not (eqb (length xs % 1024) 0) || ltb 16384 (chunksOf xs)) Shape

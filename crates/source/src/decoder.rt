@@ -14,6 +14,9 @@ use selection::Refusal;
 /// How many readings a chunk has.
 pub const CHUNK: u64 = 1024;
 
+/// The most chunks of a source.
+pub const MAX_CHUNKS: u64 = 16384;
+
 /// A source of readings, and an allowance that fetches use up.
 ///
 /// It has 1,024 readings in each of at most 16,384 chunks. A fetch is carried out whole, or is

@@ -3,9 +3,11 @@ ghost use mathlib.Core.Path.{_≡_};
 ghost use denote.Ref.{now as at};
 ghost use Rattle.std.specs.declared.option.Option.the-variants.{Some, None};
 ghost use Rattle.std.specs.declared.result.Result.the-variants.{Ok, Err};
-ghost use Rattle.source.specs.Fetched.{Whole, tableFault};
+ghost use Rattle.source.specs.Fetched.{tableFault, wholePart};
+ghost use Rattle.source.specs.Parts.{part-whole};
 use super::decoder::CHUNK;
 use super::decoder::ChunkDecoder;
+use super::decoder::MAX_CHUNKS;
 use super::decoder::admit_chunk;
 use super::decoder::admit_indices;
 use kernels::Element;
@@ -14,18 +16,19 @@ use kernels::copy_part;
 use selection::Refusal;
 
 /// The readings are the elements of a lent slice.
+#[derive(Drop)]
 pub struct Table<'a, T> {
     lent: &'a [T],
     left: u64,
-    ghost whole: { Whole (at lent) },
 }
 
 impl<'a, T: Element> Table<'a, T> {
     /// A source of the slice's elements, with an allowance.
     pub fn new(lent: &'a [T], allowance: u64) -> Result<Self, Refusal>
-        ensures { λ r. ⌜ elim r [ Ok t ↦ (tableFault (now (lent .entry)) ≡ None) × (now (t .lent) ≡ now (lent .entry)) × (t .left ≡ allowance) | Err e ↦ tableFault (now (lent .entry)) ≡ Some e ] ⌝ }
+        ensures { λ r. ⌜ elim r [ Ok t ↦ (tableFault (now (lent .entry)) ≡ None) × (now (t .lent) ≡ now (lent .entry)) × (wholePart (now (t .lent)) ≡ now (lent .entry)) × (t .left ≡ allowance) | Err e ↦ tableFault (now (lent .entry)) ≡ Some e ] ⌝ }
     {
-        if lent.len() % 1024 != 0 || lent.len() / 1024 > 16384 {
+        let len = lent.len() as u64;
+        if len % CHUNK != 0 || len / CHUNK > MAX_CHUNKS {
             return Err(Refusal::Shape);
         }
         Ok(Table {
@@ -38,14 +41,14 @@ impl<'a, T: Element> Table<'a, T> {
 pub impl<'a, T: Element> ChunkDecoder for Table<'a, T> as TableDecoder {
     type Item = T;
 
-    ghost readings = { λ t. at (t .lent) };
+    ghost readings = { λ t. wholePart (at (t .lent)) };
 
     ghost allowance = { λ t. t .left };
 
-    ghost whole = { λ t. t .whole };
+    ghost whole = { λ t. part-whole (at (t .lent)) };
 
     fn chunks(&self) -> u64 {
-        (self.lent.len() / 1024) as u64
+        (self.lent.len() as u64 / CHUNK).min(MAX_CHUNKS)
     }
 
     fn left(&self) -> u64 {
