@@ -66,13 +66,13 @@ module _ {T : Type 0} (L : ℕ) (s : Store T) (pos c : ℕ) (xs ys : List ℕ) (
       let values = length-gather (s .readings) xs inside in
       let allowance : s .allowance - feeOf L n xs - feeOf L n ys ≡ s .allowance - feeOf L n (xs ++ ys) = omega arith in
       let output : splice (splice (s .output) pos (gather (s .readings) xs)) (pos + length xs) (gather (s .readings) ys) ≡ splice (s .output) pos (gather (s .readings) (xs ++ ys)) =
-          splice-splice (s .output) pos (length xs) (gather (s .readings) xs) (gather (s .readings) ys) values room
-          ∙ ap (splice (s .output) pos) (sym (gather-append (s .readings) xs ys)) in
+      splice-splice (s .output) pos (length xs) (gather (s .readings) xs) (gather (s .readings) ys) values room
+      ∙ ap (splice (s .output) pos) (sym (gather-append (s .readings) xs ys)) in
       let one = last-one c ys here L n chunk in
       let full : (d : ℕ) → lastCompacted L n ys ≡ Some d → 1024 * d + 1024 ≤ length (s .readings) = λ d e. last-full d (sym one ∙ e) in
       let scratch : overlaid (s .readings) (overlaid (s .readings) (s .scratch) (lastCompacted L n xs)) (lastCompacted L n ys) ≡ overlaid (s .readings) (s .scratch) (lastCompacted L n (xs ++ ys)) =
-          over-twice (s .readings) (s .scratch) (lastCompacted L n ys) (lastCompacted L n xs) full
-          ∙ ap (overlaid (s .readings) (s .scratch)) (sym (last-append c ys here xs earlier L n)) in
+      over-twice (s .readings) (s .scratch) (lastCompacted L n ys) (lastCompacted L n xs) full
+      ∙ ap (overlaid (s .readings) (s .scratch)) (sym (last-append c ys here xs earlier L n)) in
       same-store refl allowance output scratch
     where
       last-full : (d : ℕ) → when (compacted L (length ys)) c ≡ Some d → 1024 * d + 1024 ≤ length (s .readings)

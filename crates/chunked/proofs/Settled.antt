@@ -83,11 +83,10 @@ module _ (offset : ℕ) (is : List ℕ) where
 
 -- all of them are priced
 pub priced-all : (t : Terms) (ps : List ℕ) (i paid : ℕ) → Priced t ps i paid → length ps ≤ i → (first (pastSource (t .chunks)) ps ≡ None) × (paid ≡ fee t ps)
-priced-all t ps i paid h l =
-    (
-      sym (h .inside) ∙ ap (first (pastSource (t .chunks))) (drop-all i ps l),
-      h .fee ∙ ap (fee t) (take-all i ps l),
-    )
+priced-all t ps i paid h l = (
+  sym (h .inside) ∙ ap (first (pastSource (t .chunks))) (drop-all i ps l),
+  h .fee ∙ ap (fee t) (take-all i ps l),
+)
 
 -- one of them lies past the source
 pub priced-past : (t : Terms) (ps : List ℕ) (i paid c : ℕ) → Priced t ps i paid → i < length ps → c ≡ getD ps i 0 / 1024 → t .chunks ≤ c → first (pastSource (t .chunks)) ps ≡ Some (Beyond c)

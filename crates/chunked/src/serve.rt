@@ -108,7 +108,15 @@ pub(crate) fn serve_indices<D: ChunkDecoder>(
     while i < indices.len() {
         let chunk = (indices[i] + offset) / CHUNK;
         let end = end_below(indices, i, (chunk + 1) * CHUNK - offset);
-        serve_chunk_indices(source, chunk, offset, &indices[i..end], output, at + i, scratch);
+        serve_chunk_indices(
+            source,
+            chunk,
+            offset,
+            &indices[i..end],
+            output,
+            at + i,
+            scratch,
+        );
         i = end;
     }
 }

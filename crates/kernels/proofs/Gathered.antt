@@ -95,7 +95,7 @@ copy-more src out f is k y h l inside e =
     let zero-add′ : 0 + k ≡ k = omega arith in
     let one : valueAt src place ≡ y ∷ [] = valueAt-is src place y within ∙ ap (λ v. v ∷ []) (sym e) in
     let more : gather src (map f (take (k + 1) is)) ≡ vs ++ (y ∷ []) =
-        ap (gather src) (map-more f is k 0 h) ∙ gather-append src (map f (take k is)) (place ∷ []) ∙ ap (λ ws. vs ++ ws) (append-nil (valueAt src place) ∙ one) in
+    ap (gather src) (map-more f is k 0 h) ∙ gather-append src (map f (take k is)) (place ∷ []) ∙ ap (λ ws. vs ++ ws) (append-nil (valueAt src place) ∙ one) in
     ap (λ m. set (splice out 0 vs) m y) (sym zero-add′) ∙ splice-more out 0 k vs y size (omega arith) ∙ ap (splice out 0) (sym more)
 
 -- two writes, one after the other
@@ -105,10 +105,10 @@ splice-splice xs at n vs ws e h =
     let front : length (take at xs ++ vs) ≡ at + n = simp (length-append, length-take) (omega arith) in
     let shape : splice xs at vs ≡ (take at xs ++ vs) ++ drop (at + n) xs = ap (λ k. take at xs ++ (vs ++ drop (at + k) xs)) e ∙ sym (append-assoc (take at xs) vs (drop (at + n) xs)) in
     let past : drop (at + n + m) (splice xs at vs) ≡ drop (at + n + m) xs =
-        sym (drop-drop m (at + n) (splice xs at vs))
-        ∙ ap (λ zs. drop m (drop (at + n) zs)) shape
-        ∙ ap (drop m) (drop-at (take at xs ++ vs) (drop (at + n) xs) (at + n) front)
-        ∙ drop-drop m (at + n) xs in
+    sym (drop-drop m (at + n) (splice xs at vs))
+    ∙ ap (λ zs. drop m (drop (at + n) zs)) shape
+    ∙ ap (drop m) (drop-at (take at xs ++ vs) (drop (at + n) xs) (at + n) front)
+    ∙ drop-drop m (at + n) xs in
     let all : at + length (vs ++ ws) ≡ at + n + m = simp length-append (omega arith) in
     ap (λ zs. zs ++ (ws ++ drop (at + n + m) (splice xs at vs))) (take-splice xs at n vs h e)
     ∙ ap (λ zs. (take at xs ++ vs) ++ (ws ++ zs)) past
@@ -123,11 +123,11 @@ splice-over xs vs ws h =
     let on : n + m ≡ 0 + length ws = omega arith in
     let front : length vs ≡ n = omega arith in
     let same : drop (0 + length ws) (splice xs 0 vs) ≡ drop (0 + length ws) xs =
-        ap (λ k. drop k (vs ++ drop n xs)) (sym on)
-        ∙ sym (drop-drop m n (vs ++ drop n xs))
-        ∙ ap (drop m) (drop-at vs (drop n xs) n front)
-        ∙ drop-drop m n xs
-        ∙ ap (λ k. drop k xs) on in
+    ap (λ k. drop k (vs ++ drop n xs)) (sym on)
+    ∙ sym (drop-drop m n (vs ++ drop n xs))
+    ∙ ap (drop m) (drop-at vs (drop n xs) n front)
+    ∙ drop-drop m n xs
+    ∙ ap (λ k. drop k xs) on in
     ap (λ zs. ws ++ zs) same
 
 pub splice-none : {T : Type 0} (xs : List T) (at : ℕ) → splice xs at [] ≡ xs

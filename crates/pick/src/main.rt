@@ -55,7 +55,11 @@ fn door_log(heap: Global) -> Result<Vec<Event>, AllocError> {
 fn show_reading(rt: &LibcRuntime, event: &Event) -> Result<(), AnyError> {
     let time = event.time;
     let lift = event.lift;
-    let door = if event.code == NO_SIGNAL { "no signal" } else { "signal" };
+    let door = if event.code == NO_SIGNAL {
+        "no signal"
+    } else {
+        "signal"
+    };
     println!(rt, "  second {time}, lift {lift}: {door}")?;
     Ok(())
 }
@@ -75,7 +79,10 @@ fn show_answer(
         Err(refusal) => {
             let number = refusal.number();
             let place = refusal.place();
-            println!(rt, "{what}: no, number {number}, place {place}, {left} left")?;
+            println!(
+                rt,
+                "{what}: no, number {number}, place {place}, {left} left"
+            )?;
         }
     }
     Ok(())
@@ -92,6 +99,53 @@ fn show_gap(
     show_answer(rt, "around the gap", answer, filter.left())?;
     for event in output.iter().take(AROUND.len()) {
         show_reading(rt, event)?;
+    }
+    Ok(())
+}
+
+/// The seconds from `start` up to and without `end`.
+fn stretch(heap: Global, start: u64, end: u64) -> Result<Vec<u64>, AllocError> {
+    let mut seconds = Vec::new(heap);
+    for second in start..end {
+        seconds.push(second)?;
+    }
+    Ok(seconds)
+}
+
+/// What was picked, in one line.
+fn show_part(rt: &LibcRuntime, part: &[Event]) -> Result<(), AnyError> {
+    let mut silent: usize = 0;
+    for event in part {
+        if event.code == NO_SIGNAL {
+            silent = silent.saturating_add(1);
+        }
+    }
+    if let (Some(first), Some(last)) = (part.first(), part.last()) {
+        let from = first.time;
+        let to = last.time;
+        println!(
+            rt,
+            "  second {from} to second {to}, {silent} without a signal"
+        )?;
+    }
+    Ok(())
+}
+
+/// A pick of a whole stretch, which is fetched by whole chunks.
+fn show_stretch(
+    rt: &LibcRuntime,
+    what: &str,
+    filter: &mut ChunkedFilter<Table<'_, Event>>,
+    seconds: &[u64],
+    output: &mut [Event],
+    scratch: &mut [Event],
+) -> Result<(), AnyError> {
+    let before = filter.written() as usize;
+    let answer = filter.push_mask_indices(0, seconds, SECONDS, output, scratch);
+    let after = filter.written() as usize;
+    show_answer(rt, what, answer, filter.left())?;
+    if before <= after && after <= output.len() {
+        show_part(rt, &output[before..after])?;
     }
     Ok(())
 }
@@ -124,13 +178,31 @@ fn show_refusals(
 fn run(rt: &LibcRuntime) -> Result<(), AnyError> {
     let heap = rt.alloc();
     let log = door_log(heap)?;
-    let mut output = vec![in heap; reading(0); 64]?;
+    let mut output = vec![in heap; reading(0); 2048]?;
     let mut scratch = vec![in heap; reading(0); 1024]?;
-    let Ok(table) = Table::new(&log, 15) else {
+    let minutes = stretch(heap, 1440, 1620)?;
+    let chunk = stretch(heap, 1024, 2048)?;
+    let Ok(table) = Table::new(&log, 2063) else {
         return Err("the log is not in whole chunks".into());
     };
     let mut filter = ChunkedFilter::new(table);
     show_gap(rt, &mut filter, &mut output, &mut scratch)?;
+    show_stretch(
+        rt,
+        "three minutes",
+        &mut filter,
+        &minutes,
+        &mut output,
+        &mut scratch,
+    )?;
+    show_stretch(
+        rt,
+        "a whole chunk",
+        &mut filter,
+        &chunk,
+        &mut output,
+        &mut scratch,
+    )?;
     show_refusals(rt, &mut filter, &mut output, &mut scratch)?;
     let written = filter.written();
     let fees = filter.fees();

@@ -61,9 +61,9 @@ positions s = kept-by (picks s) (counting 0 (extent s))
 abbrev pub indexFault : ℕ → List ℕ → ℕ → Option Refusal
 indexFault n xs k =
     firstOf (
-      when (ltb 0 k && leb (getD xs k 0) (getD xs (k - 1) 0)) (Order k)
-      ∷ when (leb n (getD xs k 0)) (Past k)
-      ∷ []
+    when (ltb 0 k && leb (getD xs k 0) (getD xs (k - 1) 0)) (Order k)
+    ∷ when (leb n (getD xs k 0)) (Past k)
+    ∷ []
     )
 
 abbrev pub noRun : Run
@@ -73,9 +73,9 @@ abbrev pub runFault : ℕ → List Run → ℕ → Option Refusal
 runFault n rs k =
     let r = getD rs k noRun in
     firstOf (
-      when ((ltb 0 k && ltb (r .start) (getD rs (k - 1) noRun .«end»)) || leb (r .«end») (r .start)) (Order k)
-      ∷ when (ltb n (r .«end»)) (Past k)
-      ∷ []
+    when ((ltb 0 k && ltb (r .start) (getD rs (k - 1) noRun .«end»)) || leb (r .«end») (r .start)) (Order k)
+    ∷ when (ltb n (r .«end»)) (Past k)
+    ∷ []
     )
 
 -- the first faulty item of a list

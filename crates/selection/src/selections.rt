@@ -68,10 +68,14 @@ fn count_indices(indices: &[u64], len: u64) -> Result<u64, Refusal>
     let mut least = 0;
     for (place, index) in indices.iter().enumerate() {
         if *index < least {
-            return Err(Refusal::Order { place: place as u64 });
+            return Err(Refusal::Order {
+                place: place as u64,
+            });
         }
         if *index >= len {
-            return Err(Refusal::Past { place: place as u64 });
+            return Err(Refusal::Past {
+                place: place as u64,
+            });
         }
         least = *index + 1;
     }
@@ -89,10 +93,14 @@ fn count_runs(runs: &[Run], len: u64) -> Result<u64, Refusal>
     let mut total = 0;
     for (place, run) in runs.iter().enumerate() {
         if run.start < least || run.end <= run.start {
-            return Err(Refusal::Order { place: place as u64 });
+            return Err(Refusal::Order {
+                place: place as u64,
+            });
         }
         if run.end > len {
-            return Err(Refusal::Past { place: place as u64 });
+            return Err(Refusal::Past {
+                place: place as u64,
+            });
         }
         least = run.end;
         total += run.end - run.start;

@@ -101,7 +101,9 @@ fn check_in_chunk(indices: &[u64]) -> Result<(), Refusal>
 {
     for (place, index) in indices.iter().enumerate() {
         if *index >= CHUNK {
-            return Err(Refusal::Index { place: place as u64 });
+            return Err(Refusal::Index {
+                place: place as u64,
+            });
         }
     }
     Ok(())

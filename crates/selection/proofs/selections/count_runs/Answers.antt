@@ -26,10 +26,10 @@ returns-then-run-least c =
     let n = c .args .len in
     let k = c .loop-place .place in
     let fault : runFault n rs k ≡ Some (Order k) =
-        elim (c .then-run-least .came) [
-          then-run-least·by·then-run-least w ↦ run-before n rs k (c .loop-place .least) (c .loop-place .inv .0) (w .if-run-least .taken)
-        | then-run-least·by·else-run-least·then-run w ↦ run-empty n rs k (c .loop-place .least) (c .loop-place .inv .0) (w .if-run .taken)
-        ] in
+    elim (c .then-run-least .came) [
+      | then-run-least·by·then-run-least w ↦ run-before n rs k (c .loop-place .least) (c .loop-place .inv .0) (w .if-run-least .taken)
+      | then-run-least·by·else-run-least·then-run w ↦ run-empty n rs k (c .loop-place .least) (c .loop-place .inv .0) (w .if-run .taken)
+    ] in
     not-long n (runsFault n rs) _ (sumBy size rs) (omega arith) (count-stands (runFault n rs) k (length rs) (c .loop-place .inv .1) _ (c .loop-place-test .taken) fault)
 
 pub returns-then-run-len : need.returns-then-run-len
@@ -50,8 +50,7 @@ loop-place-again c =
     let sum = sumBy-more size rs k noRun (c .loop-place-test .taken) in
     let inv = c .loop-place .inv in
     let e = inv .2 in
-    let l = inv .3 in
-    (
+    let l = inv .3 in (
       rw back (grind (arith, tells)),
       count-passes (runFault n rs) k (length rs) (inv .1) (c .loop-place-test .taken) fine,
       ap (λ t. t + size (getD rs k noRun)) e ∙ sym sum,

@@ -29,8 +29,8 @@ loop-k-again c =
     let b : c .bit-at .result ≡ windowBit (c .args .self) k = c .bit-at .ensures ∙ ap (bit (c .args .self .bytes .now)) at in
     let more = count-kept-more (windowBit (c .args .self)) k in
     elim (c .if-bit-at .came) [
-      then-bit-at w ↦ let i = w .n-is in let t = w .if-bit-at .taken in (grind (arith, tells), omega arith)
-    | else-bit-at w ↦ let i = w .n-is in let t = w .if-bit-at .left in (grind (arith, tells), omega arith)
+      | then-bit-at w ↦ let i = w .n-is in let t = w .if-bit-at .taken in (grind (arith, tells), omega arith)
+      | else-bit-at w ↦ let i = w .n-is in let t = w .if-bit-at .left in (grind (arith, tells), omega arith)
     ]
 
 pub returns : need.returns
