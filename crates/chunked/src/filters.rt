@@ -37,14 +37,16 @@ impl<D: ChunkDecoder> ChunkedFilter<D> {
     pub fn written(&self) -> u64
         ensures { λ r. ⌜ r ≡ now (self .entry) .written ⌝ }
     {
-        self.written
+        let written = self.written;
+        written
     }
 
     /// What was paid, modulo 2^64.
     pub fn fees(&self) -> u64
         ensures { λ r. ⌜ r ≡ now (self .entry) .fees ⌝ }
     {
-        self.fees
+        let fees = self.fees;
+        fees
     }
 
     /// How much of the source's allowance is left.
