@@ -1,6 +1,6 @@
 -- Which positions a selection picks, and what is wrong with one.
-use Prim.Native.Nat.{ℕ, suc, _+_, _-_, _*_, _/_, _%_, _^_, _<_, _≤_}
-use mathlib.Core.Bool.{Bool, true, false, _&&_, _||_}
+use Prim.Native.Nat.{ℕ, zero, suc, _+_, _-_, _*_, _/_, _%_, _^_, _<_, _≤_}
+use mathlib.Core.Bool.{Bool, true, false, cond, _&&_, _||_}
 use mathlib.Core.List.{List, [], _∷_}
 use lib.Dec.{eqb, leb, ltb}
 use lib.ListN.{length, getD}
@@ -22,9 +22,18 @@ abbrev pub Rising : ℕ → ℕ → List ℕ → Type 0
 Rising lo hi [] = Unit {0}
 Rising lo hi (x ∷ xs) = (lo ≤ x) × (x < hi) × Rising (suc x) hi xs
 
+-- bit j of a number, the lowest first
+abbrev pub bitOf : ℕ → ℕ → Bool
+bitOf n j = eqb (n / 2 ^ j % 2) 1
+
 -- bit k of bytes, the lowest of each first
 abbrev pub bit : List ℕ → ℕ → Bool
-bit bytes k = eqb (getD bytes (k / 8) 0 / 2 ^ (k % 8) % 2) 1
+bit bytes k = bitOf (getD bytes (k / 8) 0) (k % 8)
+
+-- the number below 2 ^ n with such bits
+abbrev pub fromBits : (ℕ → Bool) → ℕ → ℕ
+fromBits f zero = 0
+fromBits f (suc n) = fromBits f n + cond (f n) (2 ^ n) 0
 
 abbrev pub among : ℕ → List ℕ → Bool
 among k [] = false
