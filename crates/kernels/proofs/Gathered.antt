@@ -6,6 +6,7 @@ use native.Mathlib.Omega.{arith}
 use lib.ListN.{length, take, drop, getD, set}
 use Rattle.std.specs.Iters.{counting}
 use Rattle.std.specs.shelf.Lists.{All, joined}
+use Rattle.std.proofs.shelf.Counted.{getD-map-counting, length-map-counting}
 use Rattle.std.proofs.shelf.Elements.{all-getD, all-map, all-take}
 use Rattle.std.proofs.shelf.Lists.{append-nil, drop-append-le, drop-take, take-append-drop, take-append-le, take-take, length-map, length-take-le, map-more, take-at, drop-at, append-assoc, drop-drop, drop-more, take-more, set-at, length-take, length-drop, length-append}
 use Rattle.kernels.specs.Moved.{valueAt, gather, splice}
@@ -160,3 +161,21 @@ valueAt-take xs n p h =
     let m : ℕ = n - p in
     let on : p + m ≡ n = omega arith in
     ap (λ k. take 1 (drop p (take k xs))) (sym on) ∙ ap (take 1) (drop-take p m xs) ∙ take-take 1 m (drop p xs) (omega arith)
+
+-- a loop that writes f of each of some numbers, one more
+pub write-more : {T : Type 0} (f : ℕ → T) (is : List ℕ) (out : List T) (k : ℕ) → k < length is → k < length out → set (splice out 0 (map f (take k is))) k (f (getD is k 0)) ≡ splice out 0 (map f (take (k + 1) is))
+write-more f is out k h l =
+    let vs = map f (take k is) in
+    let size : length vs ≡ k = length-map (take k is) f ∙ length-take-le k is (omega arith) in
+    let here : 0 + k ≡ k = omega arith in
+    ap (λ m. set (splice out 0 vs) m (f (getD is k 0))) (sym here)
+    ∙ splice-more out 0 k vs (f (getD is k 0)) size (omega arith)
+    ∙ ap (splice out 0) (sym (map-more f is k 0 h))
+
+-- values made by their places
+pub gather-made : {T : Type 0} (f : ℕ → T) (n : ℕ) (ps : List ℕ) → All (λ p. p < n) ps → gather (map f (counting 0 n)) ps ≡ map f ps
+gather-made f n [] h = refl
+gather-made f n (p ∷ ps) h =
+    let inside : p < length (map f (counting 0 n)) = let size = length-map-counting f 0 n in let l = h .0 in omega arith in
+    let one : valueAt (map f (counting 0 n)) p ≡ f p ∷ [] = valueAt-is (map f (counting 0 n)) p (f p) inside ∙ ap (λ v. v ∷ []) (getD-map-counting f 0 n p p (f p) (h .0) (omega arith)) in
+    ap₂ (λ v vs. v ++ vs) one (gather-made f n ps (h .1))

@@ -10,7 +10,7 @@ use Rattle.std.specs.Iters.{counting}
 use Rattle.std.specs.shelf.Lists.{All}
 use Rattle.std.specs.declared.option.Option.{Option}
 use Rattle.std.specs.declared.option.Option.the-variants.{Some, None}
-use Rattle.std.specs.declared.result.Result.the-variants.{Ok}
+use Rattle.std.specs.declared.result.Result.the-variants.{Ok, Err}
 use Rattle.std.proofs.shelf.Lists.{take-all}
 use Rattle.std.proofs.shelf.Counted.{length-counting, getD-counting}
 use Rattle.std.proofs.shelf.Elements.{all-map, all-weaker, all-getD, all-from-getD}
@@ -19,12 +19,14 @@ use Rattle.std.proofs.shelf.Ways.{tells}
 use Rattle.selection.specs.declared.refusals.Refusal.{Refusal}
 use Rattle.selection.specs.declared.refusals.Refusal.the-variants.{Output, Beyond, Index, Spent}
 use Rattle.selection.specs.Refusals.{when, orElse, first, firstOf, answered, settled}
-use Rattle.selection.proofs.Objections.{none-first, none-when, none-each, none-of, when-none, first-none, ok-answered}
+use Rattle.selection.proofs.Objections.{none-first, none-when, none-each, none-of, when-none, first-none, answered-err, ok-answered}
 use Rattle.selection.proofs.Rising.{rising-all, rising-counting}
+use Rattle.selection.proofs.Filtered.{map-map}
 use Rattle.selection.proofs.Listed.{at-count}
 use Rattle.kernels.specs.Moved.{gather, splice}
-use Rattle.kernels.proofs.Gathered.{gather-counting, valueAt-take}
-use Rattle.source.specs.Fetched.{Held, Whole, chunksOf, delivered, fetchFault, fetched, holding, indexFault, objections, placeIn, wholeChunk, wholeChunks, wholePart}
+use Rattle.kernels.proofs.Gathered.{gather-counting, gather-made, valueAt-take}
+use Rattle.source.specs.Fetched.{Held, Whole, chunksOf, delivered, fetchFault, fetched, holding, indexFault, objections, placeIn, rampAt, rampPlace, ramped, wholeChunk, wholeChunks, wholePart}
+use Rattle.source.specs.Parts.{ramp-length}
 
 pub index-past : (is : List ℕ) (k : ℕ) → 1024 ≤ getD is k 0 → indexFault is k ≡ Some (Index k)
 index-past is k h = grind (arith, tells)
@@ -96,6 +98,13 @@ module _ {T : Type 0} (h : Held T) (c : ℕ) (is : List ℕ) where
       let none : fetchFault h c is ≡ None = ap (λ m. firstOf (objections m (h .allowance) (length (h .output)) c is)) (sym n) ∙ ok in
       (ok-answered (fetchFault h c is) (tt {0}) none, ap₂ (λ a b. holding (h .readings) a b) l o ∙ sym (fetched-ok none))
 
+  -- and of one that it refused
+  pub turned-down : (chunks : ℕ) (e : Refusal) → chunks ≡ chunksOf (h .readings) → Err e ≡ answered (firstOf (objections chunks (h .allowance) (length (h .output)) c is)) (tt {0}) → (Err e ≡ answered (fetchFault h c is) (tt {0})) × (h ≡ fetched h c is)
+  unfolding fetchFault
+  turned-down chunks e n r =
+      let stands : fetchFault h c is ≡ Some e = ap (λ m. firstOf (objections m (h .allowance) (length (h .output)) c is)) (sym n) ∙ answered-err (firstOf (objections chunks (h .allowance) (length (h .output)) c is)) (tt {0}) e (sym r) in
+      (sym (ap (λ o. answered o (tt {0})) stands), sym (fetched-err e stands))
+
 -- the readings of a chunk, one after another
 pub whole-places : (c : ℕ) → map (placeIn c) wholeChunk ≡ counting (1024 * c) 1024
 unfolding wholeChunk
@@ -123,3 +132,17 @@ pub part-chunk : {T : Type 0} (xs : List T) (c : ℕ) → c < wholeChunks xs →
 part-chunk xs c h =
     part-gather xs (map (placeIn c) wholeChunk) (all-map (λ p. p < 1024 * wholeChunks xs) (placeIn c) wholeChunk (all-weaker (λ i. i < 1024) (λ i. placeIn c i < 1024 * wholeChunks xs) (λ i l. omega arith) wholeChunk whole-below))
     ∙ whole-gathered xs c
+
+pub whole-getD : (k : ℕ) → k < 1024 → getD wholeChunk k 0 ≡ k
+unfolding wholeChunk
+whole-getD k h = getD-counting 0 1024 k 0 h ∙ omega arith
+
+pub ramp-chunks : (start step chunks : ℕ) → chunksOf (ramped start step (1024 * chunks)) ≡ chunks
+ramp-chunks start step chunks = let n = ramp-length start step (1024 * chunks) in omega arith
+
+-- the readings of a ramp at some indices of a chunk
+pub ramp-gathered : (start step chunks c : ℕ) (is : List ℕ) → c < chunks → All (λ i. i < 1024) is → gather (ramped start step (1024 * chunks)) (map (placeIn c) is) ≡ map (rampPlace start step c) is
+unfolding ramped
+ramp-gathered start step chunks c is l h =
+    gather-made (rampAt start step) (1024 * chunks) (map (placeIn c) is) (all-map (λ p. p < 1024 * chunks) (placeIn c) is (all-weaker (λ i. i < 1024) (λ i. placeIn c i < 1024 * chunks) (λ i k. omega arith) is h))
+    ∙ map-map (rampAt start step) (placeIn c) is

@@ -1,5 +1,5 @@
 -- What a source holds, and what a fetch does.
-use Prim.Native.Nat.{ℕ, min, _+_, _-_, _*_, _/_, _%_, _≤_}
+use Prim.Native.Nat.{ℕ, min, _+_, _-_, _*_, _/_, _%_, _^_, _≤_}
 use mathlib.Core.Path.{_≡_}
 use mathlib.Core.List.{List, [], _∷_, map}
 use mathlib.Core.Bool.{not, _||_}
@@ -74,3 +74,19 @@ wholePart xs = take (1024 * wholeChunks xs) xs
 -- why a slice is no table: it would have other readings
 abbrev pub tableFault : {T : Type 0} → List T → Option Refusal
 tableFault xs = when (not (eqb (length xs % 1024) 0) || ltb 16384 (chunksOf xs)) Shape
+
+-- reading i of a ramp
+abbrev pub rampAt : ℕ → ℕ → ℕ → ℕ
+rampAt start step i = (start + step * i) % 2 ^ 64
+
+-- the reading at index i of chunk c
+abbrev pub rampPlace : ℕ → ℕ → ℕ → ℕ → ℕ
+rampPlace start step c i = rampAt start step (placeIn c i)
+
+-- the first n readings of a ramp
+unfoldable pub ramped : ℕ → ℕ → ℕ → List ℕ
+ramped start step n = map (rampAt start step) (counting 0 n)
+
+-- why there is no ramp of so many chunks
+abbrev pub rampFault : ℕ → Option Refusal
+rampFault chunks = when (ltb 16384 chunks) Shape

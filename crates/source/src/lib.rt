@@ -1,8 +1,11 @@
 //! Where readings come from.
 mod decoder;
+mod ramps;
 mod tables;
 
 pub use decoder::CHUNK;
 pub use decoder::ChunkDecoder;
+pub use ramps::Ramp;
+pub use ramps::RampDecoder;
 pub use tables::Table;
 pub use tables::TableDecoder;

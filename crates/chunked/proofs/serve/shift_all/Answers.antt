@@ -1,13 +1,13 @@
 use Prim.Native.Nat.{ℕ, _+_, _-_, _^_, _<_, _≤_}
-use mathlib.Core.Path.{_≡_, refl, sym, ap, _∙_}
+use mathlib.Core.Path.{_≡_, ap, _∙_}
 use mathlib.Core.List.{map}
 use native.Mathlib.Omega.{arith}
 use borrow.Author.Needs.{needs}
-use lib.ListN.{length, getD, set, take}
-use Rattle.std.proofs.shelf.Lists.{take-all, length-map, length-take-le, map-more}
+use lib.ListN.{length, getD, set}
+use Rattle.std.proofs.shelf.Lists.{take-all}
 use Rattle.std.proofs.shelf.Elements.{all-getD}
 use Rattle.kernels.specs.Moved.{Within, shifted, splice}
-use Rattle.kernels.proofs.Gathered.{splice-more}
+use Rattle.kernels.proofs.Gathered.{write-more}
 use Rattle.chunked.proofs.serve.shift_all.Needs as need
 
 pub add-out : need.add-out
@@ -21,18 +21,10 @@ sub-out c = all-getD (Within (c .args .up) (c .args .down) 1024) (c .args .indic
 
 pub loop-k-again : need.loop-k-again
 loop-k-again c =
-    let is = c .args .indices .now in
-    let out = c .args .out .now in
     let f = shifted (c .args .up) (c .args .down) in
+    let is = c .args .indices .now in
     let k = c .loop-k .k in
-    let taken = c .loop-k-test .taken in
-    let vs = map f (take k is) in
-    let size : length vs ≡ k = length-map (take k is) f ∙ length-take-le k is (omega arith) in
-    let here : 0 + k ≡ k = omega arith in
-    ap (λ xs. set xs k (f (getD is k 0))) (c .loop-k .inv)
-    ∙ ap (λ m. set (splice out 0 vs) m (f (getD is k 0))) (sym here)
-    ∙ splice-more out 0 k vs (f (getD is k 0)) size (let room = c .pre .room in omega arith)
-    ∙ ap (splice out 0) (sym (map-more f is k 0 taken))
+    ap (λ xs. set xs k (f (getD is k 0))) (c .loop-k .inv) ∙ write-more f is (c .args .out .now) k (c .loop-k-test .taken) (let room = c .pre .room in let taken = c .loop-k-test .taken in omega arith)
 
 pub returns : need.returns
 returns c = c .loop-k .inv ∙ ap (λ js. splice (c .args .out .now) 0 (map (shifted (c .args .up) (c .args .down)) js)) (take-all (c .loop-k .k) (c .args .indices .now) (c .loop-k-test .left))
