@@ -102,7 +102,7 @@ cut lo hi ps i j c up l e parted more within below above =
     later k h in-list (inl a) = let x = parted k a l in let y = above in-list in omega arith
     later k h in-list (inr a) = let x = below k a h in let y = above in-list in omega arith
 
-module _ (ps : List ℕ) (i j : ℕ) (up : i ≤ j) where
+module _ {X : Type 0} (ps : List X) (i j : ℕ) (up : i ≤ j) where
   pub take-cut : take j ps ≡ take i ps ++ between i j ps
   take-cut = let on : i + (j - i) ≡ j = omega arith in ap (λ n. take n ps) (sym on) ∙ take-add i (j - i) ps
 

@@ -3,3 +3,4 @@ pub mod Cuts
 pub mod Settled
 pub mod Fetching
 pub mod Serving
+pub mod Spanning

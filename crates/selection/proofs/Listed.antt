@@ -26,7 +26,7 @@ use Rattle.selection.specs.declared.refusals.Refusal.the-variants.{Order, Past
 use Rattle.selection.specs.declared.selections.Selection.{Selection}
 use Rattle.selection.specs.declared.selections.Selection.the-variants.{Bitmap, Indices, Runs}
 use Rattle.selection.specs.Refusals.{when, first, firstOf, answered}
-use Rattle.selection.specs.Selected.{Rising, windowBit, windowFault, among, inRun, covered, indexFault, indicesFault, runFault, runsFault, noRun, long, positions, countOf, selectionFault, extent}
+use Rattle.selection.specs.Selected.{Rising, RunsRise, range, windowBit, windowFault, among, inRun, covered, indexFault, indicesFault, runFault, runsFault, noRun, long, positions, countOf, selectionFault, extent}
 use Rattle.selection.proofs.Objections.{none-each, none-of, none-when, none-first, when-none, first-none, ok-answered}
 use Rattle.selection.proofs.Rising.{rising-from, rising-within, rising-all, rising-counting, rising-getD, rising-step}
 use Rattle.selection.proofs.Filtered.{kept-same}
@@ -110,14 +110,6 @@ index-rises n xs e = rising-by-places 0 n xs (λ _. omega arith) below step
 pub indices-pick : (xs : RefT (List ℕ)) (n : ℕ) → indicesFault n (now xs) ≡ None → positions (Indices xs n) ≡ now xs
 unfolding positions
 indices-pick xs n e = among-rising n 0 (now xs) (rising-within 0 n 0 (0 + n) (now xs) (omega arith) (omega arith) (index-rises n (now xs) e))
-
--- runs one after another
-abbrev pub RunsRise : ℕ → ℕ → List Run → Type 0
-RunsRise lo hi [] = Unit {0}
-RunsRise lo hi (r ∷ rs) = (lo ≤ r .start) × (r .start < r .«end») × (r .«end» ≤ hi) × RunsRise (r .«end») hi rs
-
-abbrev pub range : Run → List ℕ
-range r = counting (r .start) (r .«end» - r .start)
 
 among-append : (k : ℕ) (xs ys : List ℕ) → among k (xs ++ ys) ≡ (among k xs || among k ys)
 among-append k [] ys = refl

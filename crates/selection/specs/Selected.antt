@@ -50,6 +50,15 @@ covered k (r ∷ rs) = inRun k r || covered k rs
 abbrev pub windowBit : Window → ℕ → Bool
 windowBit w k = bit (now (w .bytes)) (w .start + k)
 
+-- runs one after another, from lo on and up to hi
+abbrev pub RunsRise : ℕ → ℕ → List Run → Type 0
+RunsRise lo hi [] = Unit {0}
+RunsRise lo hi (r ∷ rs) = (lo ≤ r .start) × (r .start < r .«end») × (r .«end» ≤ hi) × RunsRise (r .«end») hi rs
+
+-- the positions of a run
+abbrev pub range : Run → List ℕ
+range r = counting (r .start) (r .«end» - r .start)
+
 -- whether a position is selected
 abbrev pub picks : Selection → ℕ → Bool
 picks (Bitmap w) k = windowBit w k
