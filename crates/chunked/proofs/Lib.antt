@@ -4,3 +4,4 @@ pub mod Settled
 pub mod Fetching
 pub mod Serving
 pub mod Spanning
+pub mod Cursor

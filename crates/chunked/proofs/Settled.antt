@@ -8,20 +8,21 @@ use native.Mathlib.Nat.{add-comm}
 use denote.Ref.{RefT, now}
 use lib.Dec.{leb, ltb}
 use lib.ListN.{length, take, drop, getD}
-use Rattle.std.specs.shelf.Lists.{between}
+use Rattle.std.specs.shelf.Lists.{between, joined}
 use Rattle.std.specs.declared.option.Option.{Option}
 use Rattle.std.specs.declared.option.Option.the-variants.{Some, None}
 use Rattle.std.proofs.shelf.Lists.{getD-map, length-map, take-all, take-map, drop-all, drop-map}
 use Rattle.std.proofs.shelf.Ways.{tells}
 use Rattle.selection.specs.declared.refusals.Refusal.{Refusal}
 use Rattle.selection.specs.declared.refusals.Refusal.the-variants.{Beyond, Offset, Scratch}
-use Rattle.selection.specs.declared.selections.Selection.the-variants.{Indices}
+use Rattle.selection.specs.declared.selections.Selection.the-variants.{Indices, Runs}
+use Rattle.selection.specs.declared.selections.Run.{Run}
 use Rattle.std.specs.declared.result.Result.the-variants.{Ok, Err}
 use Rattle.selection.specs.Refusals.{answered, first, firstOf, settled, when}
-use Rattle.selection.specs.Selected.{Rising, indicesFault, long, selectionFault}
+use Rattle.selection.specs.Selected.{Rising, RunsRise, indicesFault, long, range, runsFault, selectionFault}
 use Rattle.std.proofs.shelf.Tests.{ltb-false}
 use Rattle.selection.proofs.Objections.{answered-err, answered-ok, answered-value, none-each, when-none}
-use Rattle.selection.proofs.Listed.{index-rises, indices-pick}
+use Rattle.selection.proofs.Listed.{index-rises, indices-pick, runs-pick-formed, runs-rise, runs-wider}
 use Rattle.selection.proofs.Rising.{rising-within, rising-shifted, rising-getD, rising-length}
 use Rattle.chunked.specs.declared.settle.Push.{Push}
 use Rattle.chunked.specs.declared.settle.Receipt.{Receipt}
@@ -128,6 +129,19 @@ module _ (offset : ℕ) (xs : RefT (List ℕ)) (n : ℕ) (formed : selectionFaul
   pub places-listed : places (record { offset = offset; selection = Indices xs n }) ≡ at offset (now xs)
   unfolding places
   places-listed = ap (map (moved offset)) (indices-pick xs n (parts .1))
+
+-- a well formed run list
+module _ (offset : ℕ) (rs : RefT (List Run)) (n : ℕ) (formed : selectionFault (Runs rs n) ≡ None) where
+  run-parts : (n ≤ 16777216) × (runsFault n (now rs) ≡ None)
+  unfolding selectionFault
+  run-parts = let h = none-each (long n ∷ runsFault n (now rs) ∷ []) formed in (ltb-false 16777216 n (when-none _ _ (h .0)), h .1 .0)
+
+  pub listed-runs-rise : RunsRise 0 16777216 (now rs)
+  listed-runs-rise = runs-wider 0 n 16777216 (now rs) (run-parts .0) (runs-rise n (now rs) (run-parts .1))
+
+  pub places-runs : places (record { offset = offset; selection = Runs rs n }) ≡ at offset (joined range (now rs))
+  unfolding places
+  places-runs = ap (map (moved offset)) (runs-pick-formed rs n (run-parts .1))
 
 -- a push with an offset and a scratch that will do
 pub roomy : (scratch offset : ℕ) → roomFault scratch offset ≡ None → (offset ≤ 1024) × (1024 ≤ scratch)

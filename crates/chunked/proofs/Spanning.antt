@@ -8,16 +8,20 @@ use lib.ListN.{length, take, drop, getD}
 use Rattle.std.specs.Iters.{counting}
 use Rattle.std.specs.shelf.Lists.{All, between, joined}
 use Rattle.std.proofs.shelf.Counted.{length-counting}
-use Rattle.std.proofs.shelf.Elements.{all-append, all-weaker}
-use Rattle.std.proofs.shelf.Lists.{append-assoc, append-nil, getD-drop, length-append, length-drop, map-append}
+use Rattle.std.proofs.shelf.Elements.{all-append, all-map, all-weaker}
+use Rattle.std.proofs.shelf.Lists.{append-assoc, append-nil, drop-drop, getD-drop, length-append, length-drop, map-append, take-append-drop, take-more, take-rest}
 use Rattle.std.proofs.shelf.Tests.{cases-lt}
 use Rattle.selection.specs.declared.selections.Run.{Run}
 use Rattle.selection.specs.Selected.{RunsRise, noRun, range}
 use Rattle.selection.proofs.Rising.{rising-all, rising-counting}
+use borrow.Rule.Slice.PartMut.{putMid}
+use Rattle.kernels.specs.Moved.{shifted, splice}
+use Rattle.kernels.proofs.Gathered.{splice-splice}
 use Rattle.chunked.specs.Pushes.{moved}
-use Rattle.chunked.specs.Spans.{inSpan, spanEnd, spanStart, spanned}
+use Rattle.chunked.specs.Spans.{Spans, inSpan, spanEnd, spanStart, spanned}
 use Rattle.std.proofs.shelf.Edits.{between-more}
 use Rattle.chunked.proofs.Cuts.{drop-cut}
+use Rattle.chunked.proofs.Fetching.{put-rest, splice-part}
 use Rattle.chunked.proofs.Settled.{at}
 
 pub span-append : (offset lo hi : ℕ) (rs ss : List Run) → inSpan offset lo hi (rs ++ ss) ≡ inSpan offset lo hi rs ++ inSpan offset lo hi ss
@@ -196,3 +200,54 @@ module _ (offset lo hi : ℕ) (runs : List Run) (from i : ℕ) (up : RunsRise 0 
       ∙ span-append offset lo hi (between from (i + 1) runs) (drop (i + 1) runs)
       ∙ ap (λ xs. inSpan offset lo hi (between from (i + 1) runs) ++ xs) (span-above offset lo hi (getD runs i noRun .«end») 16777216 (drop (i + 1) runs) later (omega arith))
       ∙ append-nil (inSpan offset lo hi (between from (i + 1) runs))
+
+-- one run more of a list
+module _ (offset lo hi : ℕ) (rs : List Run) (i : ℕ) (here : i < length rs) where
+  pub span-take-more : inSpan offset lo hi (take (i + 1) rs) ≡ inSpan offset lo hi (take i rs) ++ spanned offset lo hi (getD rs i noRun)
+  span-take-more = ap (inSpan offset lo hi) (take-more rs i noRun here) ∙ span-append offset lo hi (take i rs) (getD rs i noRun ∷ []) ∙ ap (λ xs. inSpan offset lo hi (take i rs) ++ xs) (append-nil (spanned offset lo hi (getD rs i noRun)))
+
+  pub span-take-count : length (inSpan offset lo hi (take (i + 1) rs)) ≡ length (inSpan offset lo hi (take i rs)) + (spanEnd offset hi (getD rs i noRun) - spanStart offset lo hi (getD rs i noRun))
+  span-take-count = ap length span-take-more ∙ length-append (inSpan offset lo hi (take i rs)) (spanned offset lo hi (getD rs i noRun)) ∙ ap (λ n. length (inSpan offset lo hi (take i rs)) + n) (length-counting (spanStart offset lo hi (getD rs i noRun)) (spanEnd offset hi (getD rs i noRun) - spanStart offset lo hi (getD rs i noRun)))
+
+pub span-take-most : (offset lo hi : ℕ) (rs : List Run) (i : ℕ) → length (inSpan offset lo hi (take i rs)) ≤ length (inSpan offset lo hi rs)
+span-take-most offset lo hi rs i =
+    let both : length (inSpan offset lo hi rs) ≡ length (inSpan offset lo hi (take i rs)) + length (inSpan offset lo hi (drop i rs)) = ap (λ xs. length (inSpan offset lo hi xs)) (sym (take-append-drop i rs)) ∙ ap length (span-append offset lo hi (take i rs) (drop i rs)) ∙ length-append (inSpan offset lo hi (take i rs)) (inSpan offset lo hi (drop i rs)) in
+    omega arith
+
+-- numbers one after another, less a base
+pub counting-less : (base x n : ℕ) → base ≤ x → counting (x - base) n ≡ map (shifted 0 base) (counting x n)
+counting-less base x zero h = refl
+counting-less base x (suc n) h =
+    let e : x - base ≡ shifted 0 base x = omega arith in
+    let f : x - base + 1 ≡ x + 1 - base = omega arith in
+    ap₂ (λ y ys. y ∷ ys) e (ap (λ b. counting b n) f ∙ counting-less base (x + 1) n (omega arith))
+
+-- a write right after another
+pub put-more : {T : Type 0} (out vs ws : List T) (at k : ℕ) → length vs ≡ at → length ws ≡ k → putMid at k (splice out 0 vs) ws ≡ splice out 0 (vs ++ ws)
+put-more out vs ws at k e f =
+    let here : 0 + at ≡ at = omega arith in
+    let past : drop k (drop at (splice out 0 vs)) ≡ drop (at + length ws) (splice out 0 vs) = drop-drop k at (splice out 0 vs) ∙ ap (λ n. drop (at + n) (splice out 0 vs)) (sym f) in
+    ap (λ zs. take at (splice out 0 vs) ++ (ws ++ zs)) past ∙ ap (λ n. splice (splice out 0 vs) n ws) (sym here) ∙ splice-splice out 0 at vs ws e (omega arith)
+
+pub put-rest-more : {T : Type 0} (out vs ws cur part : List T) (at : ℕ) → length vs ≡ at → cur ≡ splice out 0 vs → part ≡ splice (take (length cur - at) (drop at cur)) 0 ws → putMid at (length cur - at) cur part ≡ splice out 0 (vs ++ ws)
+put-rest-more out vs ws cur part at e c p =
+    let here : 0 + at ≡ at = omega arith in
+    put-rest cur part at
+    ∙ ap (λ zs. take at cur ++ zs) (p ∙ ap (λ zs. splice zs 0 ws) (take-rest cur at))
+    ∙ splice-part cur at ws
+    ∙ ap (λ zs. splice zs at ws) c
+    ∙ ap (λ n. splice (splice out 0 vs) n ws) (sym here)
+    ∙ splice-splice out 0 at vs ws e (omega arith)
+
+-- less a base they are places of what lies from there on
+pub span-inside : (offset lo hi base n : ℕ) (rs : List Run) → All (Spans offset lo hi base) rs → hi ≤ base + n → All (λ p. p < n) (map (shifted 0 base) (inSpan offset lo hi rs))
+span-inside offset lo hi base n rs h l = all-map (λ p. p < n) (shifted 0 base) (inSpan offset lo hi rs) (each rs h)
+  where
+    each : (rs : List Run) → All (Spans offset lo hi base) rs → All (λ p. shifted 0 base p < n) (inSpan offset lo hi rs)
+    each [] h = tt
+    each (r ∷ rs) h =
+        let ordered = h .0 .ordered in
+        let above = h .0 .above in
+        all-append (λ p. shifted 0 base p < n) (spanned offset lo hi r) (inSpan offset lo hi rs)
+        (all-weaker (λ p. (spanStart offset lo hi r ≤ p) × (p < spanStart offset lo hi r + (spanEnd offset hi r - spanStart offset lo hi r))) (λ p. shifted 0 base p < n) (λ p k. omega arith) (spanned offset lo hi r) (rising-all (spanStart offset lo hi r) (spanStart offset lo hi r + (spanEnd offset hi r - spanStart offset lo hi r)) (spanned offset lo hi r) (rising-counting (spanStart offset lo hi r) (spanEnd offset hi r - spanStart offset lo hi r) (spanStart offset lo hi r + (spanEnd offset hi r - spanStart offset lo hi r)) (omega arith))))
+        (each rs (h .1))

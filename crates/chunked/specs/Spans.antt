@@ -1,5 +1,5 @@
 -- The places of runs within bounds.
-use Prim.Native.Nat.{ℕ, min, max, _+_, _-_, _≤_}
+use Prim.Native.Nat.{ℕ, min, max, _+_, _-_, _^_, _<_, _≤_}
 use mathlib.Core.List.{List}
 use Rattle.std.specs.Iters.{counting}
 use Rattle.std.specs.shelf.Lists.{joined}
@@ -22,3 +22,10 @@ inSpan offset lo hi rs = joined (spanned offset lo hi) rs
 -- a run at an offset ends at or before a bound
 abbrev pub EndsBy : ℕ → ℕ → Run → Type 0
 EndsBy offset hi r = r .«end» + offset ≤ hi
+
+-- a run that can be cut to the bounds in 64 bits, and lies from base on
+pub record Spans (offset lo hi base : ℕ) (r : Run) : Type 0 where
+  pub from : r .start + offset < 2 ^ 64
+  pub to : r .«end» + offset < 2 ^ 64
+  pub ordered : spanStart offset lo hi r ≤ spanEnd offset hi r
+  pub above : base ≤ spanStart offset lo hi r

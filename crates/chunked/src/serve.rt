@@ -1,17 +1,22 @@
 //! Fetches that nothing stands against any more.
 ghost use mathlib.Core.Path.{_≡_};
 ghost use mathlib.Core.List.{map};
-ghost use Prim.Native.Nat.{_-_, _≤_};
+ghost use Prim.Native.Nat.{_+_, _-_, _^_, _<_, _≤_};
 ghost use lib.ListN.{length, drop};
+ghost use Rattle.std.specs.Iters.{counting};
 ghost use Rattle.std.specs.declared.option.Option.the-variants.{None};
 ghost use Rattle.std.specs.shelf.Lists.{All};
 ghost use Rattle.selection.specs.Selected.{Rising};
 ghost use Rattle.kernels.specs.Moved.{Within, gather, shifted, sparseLimit, splice};
 ghost use Rattle.chunked.specs.Pushes.{Servable, declined, moved, offered, serving, storing};
+ghost use Rattle.chunked.specs.Spans.{Spans, inSpan};
 ghost use Rattle.source.specs.Fetched.{fetchFault, holding, placeIn, wholeChunk};
+use super::settle::cut_run;
 use super::settle::end_below;
 use kernels::copy_at;
+use kernels::copy_part;
 use kernels::sparse_limit;
+use selection::Run;
 use source::CHUNK;
 use source::ChunkDecoder;
 
@@ -118,5 +123,57 @@ pub(crate) fn serve_indices<D: ChunkDecoder>(
             scratch,
         );
         i = end;
+    }
+}
+
+/// Writes ascending numbers, one after another.
+fn fill_counting(out: &mut [u64], from: u64)
+    requires { ⌜ from + length (now out) < 2 ^ 64 ⌝ }
+    ensures { λ _. ⌜ now (out .exit) ≡ counting from (length (now (out .entry))) ⌝ }
+{
+    for k in 0..out.len() {
+        out[k] = from + k as u64;
+    }
+}
+
+/// Writes the places of runs within bounds, less `base`, to the first places of `out`.
+fn spread_runs(runs: &[Run], offset: u64, lo: u64, hi: u64, base: u64, out: &mut [u64])
+    requires runs { ⌜ All (Spans offset lo hi base) (now runs) ⌝ }
+    requires bound { ⌜ hi < 2 ^ 63 ⌝ }
+    requires room { ⌜ length (inSpan offset lo hi (now runs)) ≤ length (now out) ⌝ }
+    ensures { λ _. ⌜ now (out .exit) ≡ splice (now (out .entry)) 0 (map (shifted 0 base) (inSpan offset lo hi (now (runs .entry)))) ⌝ }
+{
+    let mut at = 0;
+    for run in runs {
+        let piece = cut_run(*run, offset, lo, hi);
+        let n = (piece.end - piece.start) as usize;
+        fill_counting(&mut out[at..at + n], piece.start - base);
+        at += n;
+    }
+}
+
+/// Copies what stands in `src` at the places of runs within bounds, less `base`, to the first
+/// places of `dst`.
+fn copy_runs<T: Copy>(
+    src: &[T],
+    runs: &[Run],
+    offset: u64,
+    lo: u64,
+    hi: u64,
+    base: u64,
+    dst: &mut [T],
+)
+    requires runs { ⌜ All (Spans offset lo hi base) (now runs) ⌝ }
+    requires bound { ⌜ hi < 2 ^ 63 ⌝ }
+    requires inside { ⌜ hi ≤ base + length (now src) ⌝ }
+    requires room { ⌜ length (inSpan offset lo hi (now runs)) ≤ length (now dst) ⌝ }
+    ensures { λ _. ⌜ now (dst .exit) ≡ splice (now (dst .entry)) 0 (gather (now (src .entry)) (map (shifted 0 base) (inSpan offset lo hi (now (runs .entry))))) ⌝ }
+{
+    let mut at = 0;
+    for run in runs {
+        let piece = cut_run(*run, offset, lo, hi);
+        let n = (piece.end - piece.start) as usize;
+        copy_part(src, (piece.start - base) as usize, n, &mut dst[at..]);
+        at += n;
     }
 }

@@ -3,13 +3,13 @@ ghost use mathlib.Core.Path.{_≡_};
 ghost use mathlib.Core.List.{map};
 ghost use Prim.Native.Nat.{ℕ, _+_, _^_, _<_, _≤_};
 ghost use lib.ListN.{length, getD, drop};
-ghost use Rattle.std.specs.shelf.Lists.{All, between};
-ghost use Rattle.selection.specs.declared.selections.Selection.the-variants.{Indices};
+ghost use Rattle.std.specs.shelf.Lists.{All, between, joined};
+ghost use Rattle.selection.specs.declared.selections.Selection.the-variants.{Indices, Runs};
 ghost use Rattle.selection.specs.Refusals.{answered, first};
-ghost use Rattle.selection.specs.Selected.{Rising, RunsRise, noRun};
+ghost use Rattle.selection.specs.Selected.{Rising, RunsRise, noRun, range};
 ghost use Rattle.chunked.specs.Prices.{price};
 ghost use Rattle.chunked.specs.Spans.{EndsBy, inSpan, spanEnd, spanStart};
-ghost use Rattle.chunked.specs.Pushes.{answer, fee as feeUnder, grantFault, moved, pastSource, roomFault};
+ghost use Rattle.chunked.specs.Pushes.{answer, fee as feeUnder, grantFault, moved, pastSource, receipt, roomFault};
 use selection::Refusal;
 use selection::Run;
 use selection::Selection;
@@ -173,4 +173,44 @@ pub(crate) fn runs_below(runs: &[Run], from: usize, offset: u64, lo: u64, hi: u6
         count,
         next: runs.len(),
     }
+}
+
+/// Count and fee of ascending runs, or the first chunk past the source.
+fn price_runs(terms: &Terms, offset: u64, runs: &[Run]) -> Result<Receipt, Refusal>
+    requires small { ⌜ offset ≤ 1024 ⌝ }
+    requires rising { ⌜ RunsRise 0 16777216 (now runs) ⌝ }
+    ensures { λ r. ⌜ r ≡ answered (first (pastSource (now (terms .entry) .chunks)) (map (moved offset) (joined range (now (runs .entry))))) (receipt (now (terms .entry)) (map (moved offset) (joined range (now (runs .entry))))) ⌝ }
+{
+    let mut count = 0;
+    let mut fee = 0;
+    let mut next = 0;
+    let mut resume = 0;
+    while next < runs.len() {
+        let chunk = (runs[next].start + offset).max(resume) / CHUNK;
+        if chunk >= terms.chunks {
+            return Err(Refusal::Beyond { place: chunk });
+        }
+        let end = (chunk + 1) * CHUNK;
+        let part = runs_below(runs, next, offset, resume, end);
+        count += part.count;
+        fee += chunk_price(terms.limit, part.count);
+        next = part.next;
+        resume = end;
+    }
+    Ok(Receipt { count, fee })
+}
+
+/// What a push of a run list will answer.
+pub(crate) fn settle_runs(
+    terms: &Terms,
+    offset: u64,
+    runs: &[Run],
+    len: u64,
+) -> Result<Receipt, Refusal>
+    ensures { λ r. ⌜ r ≡ answer (now (terms .entry)) (record { offset = offset; selection = Runs (runs .entry) len }) ⌝ }
+{
+    Selection::Runs { runs, len }.check()?;
+    terms.check_room(offset)?;
+    let receipt = price_runs(terms, offset, runs)?;
+    terms.grant(receipt.count, receipt.fee)
 }

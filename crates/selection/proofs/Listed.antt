@@ -134,7 +134,7 @@ rising-append : (lo mid hi : ℕ) (xs ys : List ℕ) → lo ≤ mid → mid ≤ 
 rising-append lo mid hi [] ys l k h g = rising-from mid lo hi ys l g
 rising-append lo mid hi (x ∷ xs) ys l k h g = (h .0, omega arith, rising-append (suc x) mid hi xs ys (omega arith) k (h .2) g)
 
-ranges-rise : (lo hi : ℕ) (rs : List Run) → RunsRise lo hi rs → Rising lo hi (joined range rs)
+pub ranges-rise : (lo hi : ℕ) (rs : List Run) → RunsRise lo hi rs → Rising lo hi (joined range rs)
 ranges-rise lo hi [] h = tt
 ranges-rise lo hi (r ∷ rs) h =
     let a = h .0 in
@@ -195,3 +195,7 @@ length-ranges (r ∷ rs) =
 pub count-runs : (rs : RefT (List Run)) (n : ℕ) → selectionFault (Runs rs n) ≡ None → sumBy (λ r. r .«end» - r .start) (now rs) ≡ countOf (Runs rs n)
 unfolding selectionFault
 count-runs rs n e = length-ranges (now rs) ∙ sym (ap length (runs-pick-formed rs n (none-each (long n ∷ runsFault n (now rs) ∷ []) e .1 .0)))
+
+pub runs-wider : (lo hi higher : ℕ) (rs : List Run) → hi ≤ higher → RunsRise lo hi rs → RunsRise lo higher rs
+runs-wider lo hi higher [] l up = tt
+runs-wider lo hi higher (r ∷ rs) l up = let e = up .2 in (up .0, up .1, omega arith, runs-wider (r .«end») hi higher rs l (up .3))
