@@ -2,21 +2,25 @@
 use Prim.Native.Nat.{ℕ, min, max, zero, suc, _+_, _-_, _*_, _/_, _≤_, _<_}
 use mathlib.Core.Path.{_≡_, refl, sym, ap, ap₂, subst, _∙_}
 use mathlib.Core.List.{List, [], _∷_, _++_, map}
+use mathlib.Core.Logic.{_⊎_, ⊎-elim}
 use native.Mathlib.Omega.{arith}
 use lib.ListN.{length, take, drop, getD}
 use Rattle.std.specs.Iters.{counting}
 use Rattle.std.specs.shelf.Lists.{All, between, joined}
-use Rattle.std.proofs.shelf.Elements.{all-getD}
+use Rattle.std.proofs.shelf.Edits.{getD-between, length-between}
+use Rattle.std.proofs.shelf.Elements.{all-from-getD, all-getD}
+use Rattle.std.proofs.shelf.Parts.{between-to-end}
+use Rattle.std.proofs.shelf.Tests.{cases-lt}
 use Rattle.std.proofs.shelf.Lists.{drop-all, drop-at, drop-drop, drop-more, getD-append-left, getD-drop, length-append, length-drop, length-map, take-at}
 use Rattle.selection.specs.declared.selections.Run.{Run}
 use Rattle.selection.specs.Selected.{Rising, RunsRise, noRun, range}
 use Rattle.selection.proofs.Listed.{ranges-rise}
 use Rattle.selection.proofs.Rising.{rising-shifted}
 use Rattle.chunked.specs.Pushes.{moved}
-use Rattle.chunked.specs.Spans.{EndsBy, inSpan, spanEnd, spanStart, spanned}
+use Rattle.chunked.specs.Spans.{EndsBy, Spans, inSpan, spanEnd, spanStart, spanned}
 use Rattle.chunked.proofs.Cuts.{Cut, Parted, cut, drop-cut}
 use Rattle.chunked.proofs.Settled.{at}
-use Rattle.chunked.proofs.Spanning.{runs-at, runs-drop, span-all, span-append, span-below, span-split, span-within}
+use Rattle.chunked.proofs.Spanning.{ends-ahead, ends-rise, runs-at, runs-drop, span-stops, starts-after, span-all, span-append, span-below, span-split, span-within}
 
 -- the places of runs at an offset
 abbrev pub runPlaces : ℕ → List Run → List ℕ
@@ -128,3 +132,44 @@ module _ (offset : ℕ) (runs : List Run) (up : RunsRise 0 16777216 runs) (small
               ∙ ap (λ xs. getD xs 0 0) rest-is in
               let bound = all-getD (λ p. ((c + 1) * 1024 ≤ p) × (p < 16778240)) (inSpan offset ((c + 1) * 1024) 16778240 (drop after runs)) 0 0 (omega arith) (span-within offset ((c + 1) * 1024) 16778240 (drop after runs) (bounds .1)) in
               omega arith
+
+      -- the runs that meet the chunk
+      module _ (last : ℕ) (ends : last ≡ min (length runs) (after + 1)) (past : after < length runs → (c + 1) * 1024 < getD runs after noRun .«end» + offset) where
+        pub part-runs : inSpan offset resume ((c + 1) * 1024) (between next last runs) ≡ inSpan offset resume ((c + 1) * 1024) (drop next runs)
+        part-runs = ⊎-elim stops goes-on (cases-lt after (length runs))
+          where
+            stops : after < length runs → inSpan offset resume ((c + 1) * 1024) (between next last runs) ≡ inSpan offset resume ((c + 1) * 1024) (drop next runs)
+            stops l =
+                let e : last ≡ after + 1 = omega arith in
+                ap (λ m. inSpan offset resume ((c + 1) * 1024) (between next m runs)) e ∙ sym (span-stops offset resume ((c + 1) * 1024) runs next after up (order .0) l (past l))
+
+            goes-on : length runs ≤ after → inSpan offset resume ((c + 1) * 1024) (between next last runs) ≡ inSpan offset resume ((c + 1) * 1024) (drop next runs)
+            goes-on l = ap (inSpan offset resume ((c + 1) * 1024)) (between-to-end runs next last (omega arith))
+
+        pub part-order : (next ≤ last) × (last ≤ length runs)
+        part-order = let o = order .0 in let p = order .1 in (omega arith, omega arith)
+
+        pub part-spans : All (Spans offset resume ((c + 1) * 1024) (c * 1024)) (between next last runs)
+        part-spans = all-from-getD (Spans offset resume ((c + 1) * 1024) (c * 1024)) (between next last runs) noRun each
+          where
+            each : (m : ℕ) → m < length (between next last runs) → Spans offset resume ((c + 1) * 1024) (c * 1024) (getD (between next last runs) m noRun)
+            each m l =
+                let size = length-between runs next last (part-order .1) in
+                let under : next + m < last = omega arith in
+                let read = getD-between runs next last m noRun under in
+                let in-list : next + m < length runs = let o = part-order .1 in omega arith in
+                let at-m = runs-at 0 16777216 runs (next + m) up in-list in
+                let ahead = ends-ahead offset resume ((c + 1) * 1024) runs next (next + m) up (omega arith) in-list (h .ahead) in
+                let b = bounds in
+                let low : c * 1024 ≤ max (getD runs (next + m) noRun .start + offset) resume = starts-from m in-list in
+                rw read (record { «from» = omega arith; to = omega arith; ordered = omega arith; above = omega arith })
+              where
+                starts-from : (m : ℕ) → next + m < length runs → c * 1024 ≤ max (getD runs (next + m) noRun .start + offset) resume
+                starts-from zero l = let e : next + 0 ≡ next = omega arith in rw e (omega arith)
+                starts-from (suc m) l =
+                    let e : next + suc m ≡ suc (next + m) = omega arith in
+                    let before = ends-rise 0 16777216 runs next m up (omega arith) in
+                    let first = runs-at 0 16777216 runs next up here in
+                    let far = h .ahead here in
+                    let step = starts-after 0 16777216 runs (next + m) up (omega arith) in
+                    rw e (omega arith)

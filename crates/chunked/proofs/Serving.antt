@@ -313,3 +313,8 @@ module _ {T : Type 0} (L : ℕ) (s t : Store T) (pos : ℕ) (ps : List ℕ) (i j
 
 pub serves-all : {T : Type 0} (L : ℕ) (s t : Store T) (pos : ℕ) (ps : List ℕ) (i : ℕ) → Serves L s t pos ps i → length ps ≤ i → t ≡ serving L s pos ps
 serves-all L s t pos ps i h l = h .state ∙ ap (serving L s pos) (take-all i ps l)
+
+-- places that are not moved
+pub at-zero : (ys : List ℕ) → at 0 ys ≡ ys
+at-zero [] = refl
+at-zero (y ∷ ys) = let e : 0 + y ≡ y = omega arith in ap₂ (λ x xs. x ∷ xs) e (at-zero ys)

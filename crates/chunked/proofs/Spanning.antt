@@ -157,18 +157,20 @@ runs-take a b rs zero up = tt
 runs-take a b [] (suc k) up = tt
 runs-take a b (r ∷ rs) (suc k) up = (up .0, up .1, up .2, runs-take (r .«end») b rs k (up .3))
 
+-- a run begins where the one before it ended, or later
+pub starts-after : (a b : ℕ) (rs : List Run) (k : ℕ) → RunsRise a b rs → suc k < length rs → getD rs k noRun .«end» ≤ getD rs (suc k) noRun .start
+starts-after a b [] k up h = absurd (omega arith)
+starts-after a b (r ∷ rs) zero up h = runs-at (r .«end») b rs 0 (up .3) (omega arith) .0
+starts-after a b (r ∷ rs) (suc k) up h = starts-after (r .«end») b rs k (up .3) (omega arith)
+
 -- later runs end later
 pub ends-rise : (a b : ℕ) (rs : List Run) (i m : ℕ) → RunsRise a b rs → i + m < length rs → getD rs i noRun .«end» ≤ getD rs (i + m) noRun .«end»
 ends-rise a b rs i zero up h = let e : i + 0 ≡ i = omega arith in rw e (omega arith)
 ends-rise a b rs i (suc m) up h =
     let e : i + suc m ≡ suc (i + m) = omega arith in
     let before = ends-rise a b rs i m up (omega arith) in
-    let here = runs-at (getD rs (i + m) noRun .«end») b (drop (suc (i + m)) rs) 0 (runs-after a b rs (i + m) up (omega arith)) (let n = length-drop (suc (i + m)) rs in omega arith) in
-    let read : getD (drop (suc (i + m)) rs) 0 noRun ≡ getD rs (suc (i + m)) noRun = getD-drop (suc (i + m)) rs 0 noRun ∙ ap (λ k. getD rs k noRun) (omega arith) in
-    let low : getD rs (i + m) noRun .«end» ≤ getD (drop (suc (i + m)) rs) 0 noRun .start = here .0 in
-    let more : getD (drop (suc (i + m)) rs) 0 noRun .start < getD (drop (suc (i + m)) rs) 0 noRun .«end» = here .1 in
-    let low′ : getD rs (i + m) noRun .«end» ≤ getD rs (suc (i + m)) noRun .start = rw read at low in
-    let more′ : getD rs (suc (i + m)) noRun .start < getD rs (suc (i + m)) noRun .«end» = rw read at more in
+    let low = starts-after a b rs (i + m) up (omega arith) in
+    let more = runs-at a b rs (suc (i + m)) up (omega arith) in
     rw e (omega arith)
 
 module _ (offset lo hi : ℕ) (runs : List Run) (from i : ℕ) (up : RunsRise 0 16777216 runs) (order : from ≤ i) (here : i < length runs) where

@@ -1,16 +1,19 @@
 //! A filter over a source.
 ghost use mathlib.Core.Path.{_≡_};
 ghost use Prim.Native.Nat.{_-_};
-ghost use Rattle.selection.specs.declared.selections.Selection.the-variants.{Indices};
+ghost use Rattle.selection.specs.declared.selections.Selection.the-variants.{Indices, Runs};
 ghost use Rattle.kernels.specs.Moved.{sparseLimit};
 ghost use Rattle.source.specs.Fetched.{chunksOf};
 ghost use Rattle.chunked.specs.Pushes.{answer, next, stateOf, termsOf};
 use super::serve::serve_indices;
+use super::serve::serve_runs;
 use super::settle::Receipt;
 use super::settle::Terms;
 use super::settle::settle_indices;
+use super::settle::settle_runs;
 use kernels::sparse_limit;
 use selection::Refusal;
+use selection::Run;
 use source::ChunkDecoder;
 
 /// Picks readings from a source that it owns, and keeps two totals.
@@ -98,6 +101,28 @@ impl<D: ChunkDecoder> ChunkedFilter<D> {
         let receipt = settle_indices(&terms, offset, indices, len)?;
         let at = self.written as usize;
         serve_indices(&mut self.source, offset, indices, output, at, scratch);
+        self.written = self.written.wrapping_add(receipt.count);
+        self.fees = self.fees.wrapping_add(receipt.fee);
+        Ok(receipt)
+    }
+
+    /// Writes the readings of ascending runs, each moved by the offset, to the next places of
+    /// `output`, and pays for them; or refuses, and leaves everything as it was.
+    pub fn push_slices(
+        &mut self,
+        offset: u64,
+        runs: &[Run],
+        len: u64,
+        output: &mut [D::Item],
+        scratch: &mut [D::Item],
+    ) -> Result<Receipt, Refusal>
+        ensures value { λ r. ⌜ r ≡ answer (termsOf (sparseLimit (Item·Element .bytes)) (stateOf (D·ChunkDecoder .readings) (D·ChunkDecoder .allowance) (now (self .entry)) (now (output .entry)) (now (scratch .entry)))) (record { offset = offset; selection = Runs (runs .entry) len }) ⌝ }
+        ensures after { λ _. ⌜ stateOf (D·ChunkDecoder .readings) (D·ChunkDecoder .allowance) (now (self .exit)) (now (output .exit)) (now (scratch .exit)) ≡ next (sparseLimit (Item·Element .bytes)) (stateOf (D·ChunkDecoder .readings) (D·ChunkDecoder .allowance) (now (self .entry)) (now (output .entry)) (now (scratch .entry))) (record { offset = offset; selection = Runs (runs .entry) len }) ⌝ }
+    {
+        let terms = self.terms(output.len(), scratch.len());
+        let receipt = settle_runs(&terms, offset, runs, len)?;
+        let at = self.written as usize;
+        serve_runs(&mut self.source, offset, runs, output, at, scratch);
         self.written = self.written.wrapping_add(receipt.count);
         self.fees = self.fees.wrapping_add(receipt.fee);
         Ok(receipt)

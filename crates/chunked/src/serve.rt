@@ -1,18 +1,19 @@
 //! Fetches that nothing stands against any more.
 ghost use mathlib.Core.Path.{_≡_};
 ghost use mathlib.Core.List.{map};
-ghost use Prim.Native.Nat.{_+_, _-_, _^_, _<_, _≤_};
+ghost use Prim.Native.Nat.{_+_, _-_, _*_, _^_, _<_, _≤_};
 ghost use lib.ListN.{length, drop};
 ghost use Rattle.std.specs.Iters.{counting};
 ghost use Rattle.std.specs.declared.option.Option.the-variants.{None};
-ghost use Rattle.std.specs.shelf.Lists.{All};
-ghost use Rattle.selection.specs.Selected.{Rising};
+ghost use Rattle.std.specs.shelf.Lists.{All, joined};
+ghost use Rattle.selection.specs.Selected.{Rising, RunsRise, range};
 ghost use Rattle.kernels.specs.Moved.{Within, gather, shifted, sparseLimit, splice};
 ghost use Rattle.chunked.specs.Pushes.{Servable, declined, moved, offered, serving, storing};
 ghost use Rattle.chunked.specs.Spans.{Spans, inSpan};
 ghost use Rattle.source.specs.Fetched.{fetchFault, holding, placeIn, wholeChunk};
 use super::settle::cut_run;
 use super::settle::end_below;
+use super::settle::runs_below;
 use kernels::copy_at;
 use kernels::copy_part;
 use kernels::sparse_limit;
@@ -175,5 +176,79 @@ fn copy_runs<T: Copy>(
         let n = (piece.end - piece.start) as usize;
         copy_part(src, (piece.start - base) as usize, n, &mut dst[at..]);
         at += n;
+    }
+}
+
+/// Serves the places of runs in one chunk, from place `lo` on, with the output written from `at` on:
+/// one by one, straight to the output, or through scratch.
+pub(crate) fn serve_chunk_runs<D: ChunkDecoder>(
+    source: &mut D,
+    chunk: u64,
+    offset: u64,
+    runs: &[Run],
+    lo: u64,
+    n: u64,
+    output: &mut [D::Item],
+    at: usize,
+    scratch: &mut [D::Item],
+)
+    requires servable { ⌜ Servable (offered (sparseLimit (Item·Element .bytes)) (storing (D·ChunkDecoder .readings (now source)) (D·ChunkDecoder .allowance (now source)) (now output) (now scratch)) at) chunk (inSpan offset lo ((chunk + 1) * 1024) (now runs)) ⌝ }
+    requires runs { ⌜ All (Spans offset lo ((chunk + 1) * 1024) (chunk * 1024)) (now runs) ⌝ }
+    requires count { ⌜ n ≡ length (inSpan offset lo ((chunk + 1) * 1024) (now runs)) ⌝ }
+    ensures { λ _. ⌜ storing (D·ChunkDecoder .readings (now (source .exit))) (D·ChunkDecoder .allowance (now (source .exit))) (now (output .exit)) (now (scratch .exit)) ≡ serving (sparseLimit (Item·Element .bytes)) (storing (D·ChunkDecoder .readings (now (source .entry))) (D·ChunkDecoder .allowance (now (source .entry))) (now (output .entry)) (now (scratch .entry))) at (inSpan offset lo ((chunk + 1) * 1024) (now (runs .entry))) ⌝ }
+{
+    let base = chunk * CHUNK;
+    let hi = (chunk + 1) * CHUNK;
+    let limit = sparse_limit::<D::Item>();
+    if n <= limit {
+        let mut buffer = [0u64; 160];
+        let picked = &mut buffer[..];
+        spread_runs(runs, offset, lo, hi, base, picked);
+        fetch_indices(source, chunk, &picked[0..n as usize], output, at);
+    } else if n == CHUNK {
+        fetch_chunk(source, chunk, output, at);
+    } else {
+        fetch_chunk(source, chunk, scratch, 0);
+        copy_runs(scratch, runs, offset, lo, hi, base, &mut output[at..]);
+    }
+}
+
+/// Serves ascending runs chunk by chunk, with the output written from `at` on.
+pub(crate) fn serve_runs<D: ChunkDecoder>(
+    source: &mut D,
+    offset: u64,
+    runs: &[Run],
+    output: &mut [D::Item],
+    at: usize,
+    scratch: &mut [D::Item],
+)
+    requires small { ⌜ offset ≤ 1024 ⌝ }
+    requires rising { ⌜ RunsRise 0 16777216 (now runs) ⌝ }
+    requires granted { ⌜ declined (offered (sparseLimit (Item·Element .bytes)) (storing (D·ChunkDecoder .readings (now source)) (D·ChunkDecoder .allowance (now source)) (now output) (now scratch)) at) (map (moved offset) (joined range (now runs))) ≡ None ⌝ }
+    requires room { ⌜ 1024 ≤ length (now scratch) ⌝ }
+    ensures { λ _. ⌜ storing (D·ChunkDecoder .readings (now (source .exit))) (D·ChunkDecoder .allowance (now (source .exit))) (now (output .exit)) (now (scratch .exit)) ≡ serving (sparseLimit (Item·Element .bytes)) (storing (D·ChunkDecoder .readings (now (source .entry))) (D·ChunkDecoder .allowance (now (source .entry))) (now (output .entry)) (now (scratch .entry))) at (map (moved offset) (joined range (now (runs .entry)))) ⌝ }
+{
+    let mut done: usize = 0;
+    let mut next = 0;
+    let mut resume = 0;
+    while next < runs.len() {
+        let chunk = (runs[next].start + offset).max(resume) / CHUNK;
+        let end = (chunk + 1) * CHUNK;
+        let part = runs_below(runs, next, offset, resume, end);
+        let last = runs.len().min(part.next + 1);
+        serve_chunk_runs(
+            source,
+            chunk,
+            offset,
+            &runs[next..last],
+            resume,
+            part.count,
+            output,
+            at + done,
+            scratch,
+        );
+        done += part.count as usize;
+        next = part.next;
+        resume = end;
     }
 }
