@@ -3,3 +3,5 @@ pub mod Cuts
 pub mod Settled
 pub mod Fetching
 pub mod Serving
+pub mod Fees
+pub mod Steps

@@ -46,7 +46,7 @@ over-twice xs aside (Some c) (Some d) full =
     let most : length (take 1024 (drop (1024 * d) xs)) ≤ 1024 = simp length-take (omega arith) in
     splice-over aside (take 1024 (drop (1024 * d) xs)) (take 1024 (drop (1024 * c) xs)) (omega arith)
 
-length-overlaid : {T : Type 0} (xs aside : List T) (o : Option ℕ) → 1024 ≤ length aside → length (overlaid xs aside o) ≡ length aside
+pub length-overlaid : {T : Type 0} (xs aside : List T) (o : Option ℕ) → 1024 ≤ length aside → length (overlaid xs aside o) ≡ length aside
 length-overlaid xs aside None h = refl
 length-overlaid xs aside (Some c) h =
     let most : length (take 1024 (drop (1024 * c) xs)) ≤ 1024 = simp length-take (omega arith) in

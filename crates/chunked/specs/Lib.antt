@@ -1,2 +1,4 @@
 pub mod Prices
 pub mod Pushes
+pub mod Runs
+pub mod Laws
