@@ -5,3 +5,4 @@ pub mod Fetching
 pub mod Serving
 pub mod Fees
 pub mod Steps
+pub mod Balance
