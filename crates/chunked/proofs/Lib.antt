@@ -6,3 +6,4 @@ pub mod Serving
 pub mod Fees
 pub mod Steps
 pub mod Balance
+pub mod Agreement
