@@ -7,3 +7,4 @@ pub mod Fees
 pub mod Steps
 pub mod Balance
 pub mod Agreement
+pub mod Noted
