@@ -28,7 +28,7 @@ use Rattle.selection.proofs.Listed.{among-rising, rising-by-places}
 use Rattle.selection.proofs.Rising.{rising-above, rising-all, rising-below, rising-counting, rising-kept, rising-length, rising-step}
 use Rattle.chunked.specs.Prices.{chunkPlaces, chunkPrice, compacted, compactsChunk, feeOf, inChunk, lastCompacted, lastOf, price, sumBelow}
 use Rattle.chunked.specs.Pushes.{moved, pastSource}
-use Rattle.chunked.proofs.Sums.{price-mono, sum-add, sum-le, sum-same, sum-one}
+use Rattle.chunked.proofs.Sums.{price-mono, sum-add, sum-le, sum-none, sum-same, sum-one}
 
 -- what stands before place i lies in earlier chunks than what stands there
 abbrev pub Parted : List ℕ → ℕ → Type 0
@@ -118,6 +118,11 @@ none-kept q (p ∷ ps) h = rw (h .0) (none-kept q ps (h .1))
 all-kept : (q : ℕ → Bool) (ps : List ℕ) → All (λ p. q p ≡ true) ps → kept-by q ps ≡ ps
 all-kept q [] h = refl
 all-kept q (p ∷ ps) h = rw (h .0) (ap (λ xs. p ∷ xs) (all-kept q ps (h .1)))
+
+-- no places cost nothing
+pub fee-none : (L n : ℕ) → feeOf L n [] ≡ 0
+unfolding feeOf
+fee-none L n = sum-same (chunkPrice L []) (λ _. 0) n (λ c _. grind (arith, tells)) ∙ sum-none n
 
 -- places of one chunk
 module _ (c : ℕ) (ys : List ℕ) (here : All (λ p. p / 1024 ≡ c) ys) where

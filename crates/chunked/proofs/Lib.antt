@@ -5,3 +5,8 @@ pub mod Fetching
 pub mod Serving
 pub mod Spanning
 pub mod Cursor
+pub mod Fees
+pub mod Steps
+pub mod Balance
+pub mod Agreement
+pub mod Noted

@@ -26,11 +26,11 @@ use Rattle.kernels.proofs.Gathered.{gather-append, gather-part, length-gather, 
 use Rattle.source.specs.Fetched.{Whole, chunksOf, fetchFault, holding, placeIn, wholeChunk}
 use Rattle.source.proofs.Fetches.{admits, whole-below, whole-gathered, whole-length, whole-places}
 use Rattle.chunked.specs.declared.settle.Terms.{Terms}
-use Rattle.chunked.specs.Prices.{chunkPrice, compacted, compactsChunk, feeOf, lastCompacted, lastOf, price, sumBelow}
+use Rattle.chunked.specs.Prices.{compacted, compactsChunk, feeOf, lastCompacted, lastOf, price}
 use Rattle.chunked.specs.Pushes.{Servable, Store, declined, fee, grantFault, moved, offered, overlaid, pastSource, serving, storing}
 use Rattle.chunked.proofs.Fetching.{Fetch, splice-part}
 use Rattle.chunked.proofs.Settled.{at}
-use Rattle.chunked.proofs.Cuts.{Cut, Parted, cut-rises, fee-append, fee-cut, fee-one, fee-part, last-append, last-one, take-cut}
+use Rattle.chunked.proofs.Cuts.{Cut, Parted, cut-rises, fee-append, fee-cut, fee-none, fee-one, fee-part, last-append, last-one, take-cut}
 
 -- places in chunks of the source are places of the source
 pub places-inside : {T : Type 0} (xs : List T) (ps : List ℕ) → Whole xs → All (λ p. p / 1024 < chunksOf xs) ps → All (λ p. p < length xs) ps
@@ -46,7 +46,7 @@ over-twice xs aside (Some c) (Some d) full =
     let most : length (take 1024 (drop (1024 * d) xs)) ≤ 1024 = simp length-take (omega arith) in
     splice-over aside (take 1024 (drop (1024 * d) xs)) (take 1024 (drop (1024 * c) xs)) (omega arith)
 
-length-overlaid : {T : Type 0} (xs aside : List T) (o : Option ℕ) → 1024 ≤ length aside → length (overlaid xs aside o) ≡ length aside
+pub length-overlaid : {T : Type 0} (xs aside : List T) (o : Option ℕ) → 1024 ≤ length aside → length (overlaid xs aside o) ≡ length aside
 length-overlaid xs aside None h = refl
 length-overlaid xs aside (Some c) h =
     let most : length (take 1024 (drop (1024 * c) xs)) ≤ 1024 = simp length-take (omega arith) in
@@ -223,17 +223,13 @@ granted t ps e =
 
 -- nothing served
 pub serving-none : {T : Type 0} (L : ℕ) (s : Store T) (pos : ℕ) → s ≡ serving L s pos []
-unfolding serving feeOf lastCompacted
+unfolding serving lastCompacted
 serving-none L s pos =
     let n = chunksOf (s .readings) in
-    let cost : sumBelow (chunkPrice L []) n ≡ 0 = nothing n in
+    let cost = fee-none L n in
     let none : kept-by (compactsChunk L []) (counting 0 n) ≡ [] = never n 0 in
     same-store refl (omega arith) (sym (splice-none (s .output) pos)) (sym (ap (λ cs. overlaid (s .readings) (s .scratch) (lastOf cs)) none))
   where
-    nothing : (n : ℕ) → sumBelow (chunkPrice L []) n ≡ 0
-    nothing zero = refl
-    nothing (suc n) = let before = nothing n in grind (arith, tells)
-
     never : (n a : ℕ) → kept-by (compactsChunk L []) (counting a n) ≡ []
     never zero a = refl
     never (suc n) a = let no′ : compacted L 0 ≡ false = grind (arith, tells) in rw no′ (never n (a + 1))

@@ -29,7 +29,7 @@ use Rattle.chunked.specs.declared.settle.Receipt.{Receipt}
 use Rattle.chunked.specs.declared.settle.Terms.{Terms}
 use Rattle.chunked.specs.Prices.{feeOf, price}
 use Rattle.chunked.specs.Pushes.{State, Store, answer, declined, fee, grantFault, misformed, moreWritten, moved, next, pastSource, places, receipt, refusal, roomFault, served, serving, storeOf, termsOf}
-use Rattle.chunked.proofs.Cuts.{Cut, Parted, cut, fee-cut, past-cut, past-here}
+use Rattle.chunked.proofs.Cuts.{Cut, Parted, cut, fee-cut, fee-none, past-cut, past-here}
 
 -- the places of some indices at an offset
 abbrev pub at : ℕ → List ℕ → List ℕ
@@ -43,12 +43,7 @@ pub record Priced (t : Terms) (ps : List ℕ) (i paid : ℕ) : Type 0 where
   pub parted : Parted ps i
 
 pub priced-none : (t : Terms) (ps : List ℕ) → Priced t ps 0 0
-unfolding feeOf
-priced-none t ps = record { within = omega arith; fee = nothing (t .limit) (t .chunks); low = omega arith; inside = refl; parted = λ k h. absurd (omega arith) }
-  where
-    nothing : (L n : ℕ) → 0 ≡ feeOf L n []
-    nothing L zero = refl
-    nothing L (suc n) = let before = nothing L n in grind (arith, tells)
+priced-none t ps = record { within = omega arith; fee = sym (fee-none (t .limit) (t .chunks)); low = omega arith; inside = refl; parted = λ k h. absurd (omega arith) }
 
 pub price-most : (L n : ℕ) → price L n ≤ 1024 * n + (1024 - 1024 * n)
 price-most L n = grind (arith, tells)
