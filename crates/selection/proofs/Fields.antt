@@ -84,6 +84,10 @@ pub bits-lt : (bytes : List ℕ) (s n : ℕ) → bitsFrom bytes s n < 2 ^ n
 unfolding bitsFrom
 bits-lt bytes s n = from-lt (bitPast bytes s) n
 
+bits-none : (bytes : List ℕ) (s : ℕ) → bitsFrom bytes s 0 ≡ 0
+unfolding bitsFrom
+bits-none bytes s = refl
+
 -- the places from k on have been gathered, of n
 module _ (bytes : List ℕ) (at n k all : ℕ) (so-far : all ≡ numOf (drop (at + k) bytes) % 2 ^ (8 * (n - k))) where
   pub gather-room : n ≤ 8 → 0 < k → all * 256 + 255 < 2 ^ 64
@@ -155,6 +159,18 @@ module _ (bytes : List ℕ) (at size lo hi : ℕ) (is-lo : lo ≡ bitsFrom bytes
           let long = length-drop at bytes in
           let less : numOf (drop at bytes) < 2 ^ (8 * size) = lt-of-lt-of-le (num-lt (drop at bytes)) (pow-mono (omega arith)) in
           ap (λ x. x / 2 ^ s % 2 ^ n) (mod-eq-of-lt less)
+
+-- bits of the first eight bytes from byte at on
+pub eight-num : (bytes : List ℕ) (at size lo s n : ℕ) → lo ≡ bitsFrom bytes (8 * at) (8 * min size 8) → size ≡ min (length bytes - at) 8 → s + n ≤ 64 → lo / 2 ^ s % 2 ^ n ≡ bitsFrom bytes (8 * at + s) n
+eight-num bytes at size lo s n is-lo few h =
+    let none : 8 * (size - 8) ≡ 0 = omega arith in
+    let is-hi : 0 ≡ bitsFrom bytes (8 * at + 64) (8 * (size - 8)) = sym (ap (bitsFrom bytes (8 * at + 64)) none ∙ bits-none bytes (8 * at + 64)) in
+    let lone : 0 * 2 ^ 64 + lo ≡ lo = omega arith in
+    let room : 64 ≡ 64 - n + n = omega arith in
+    let enough : (s + n ≤ 8 * size) ⊎ (length bytes - at ≤ size) = elim (cases-lt (length bytes - at) 8) [ inl l ↦ inr (omega arith) | inr l ↦ inl (omega arith) ] in
+    sym (ap (λ t. lo / 2 ^ s % 2 ^ t % 2 ^ n) room ∙ mod-mod-pow (lo / 2 ^ s) (64 - n) n)
+    ∙ ap (λ x. x / 2 ^ s % 2 ^ 64 % 2 ^ n) (sym lone)
+    ∙ field-num bytes at size lo 0 is-lo is-hi s n (omega arith) enough
 
 -- the bits of word k of a window, as bits of its bytes
 pub word-bits : (w : Window) (k : ℕ) → bitsFrom (now (w .bytes)) (w .start + 64 * k) (min (w .len - 64 * k) 64) ≡ wordOf w k

@@ -5,6 +5,7 @@ mod selections;
 mod windows;
 
 pub use loads::bits_at;
+pub use loads::field_at;
 pub use refusals::Refusal;
 pub use selections::Run;
 pub use selections::Selection;

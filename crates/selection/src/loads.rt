@@ -17,6 +17,17 @@ pub fn bits_at(bytes: &[u8], at: u64, shift: u64, n: u64) -> u64
     low_bits(joined_from(low, high, shift), n)
 }
 
+/// What `n` bits make from bit `shift` of byte `at` on, where all of them lie in eight bytes. A bit
+/// past the bytes is 0.
+pub fn field_at(bytes: &[u8], at: u64, shift: u64, n: u64) -> u64
+    requires { ⌜ shift + n ≤ 64 ⌝ ∗ ⌜ shift < 64 ⌝ }
+    ensures { λ r. ⌜ r ≡ bitsFrom (now (bytes .entry)) (8 * at + shift) n ⌝ }
+{
+    let there = (bytes.len() as u64).saturating_sub(at);
+    let low = low_word(bytes, at, there.min(8));
+    low_bits(low >> shift, n)
+}
+
 /// The first eight of `size` bytes from byte `at` on.
 fn low_word(bytes: &[u8], at: u64, size: u64) -> u64
     requires { ⌜ size ≤ length (now bytes) - at ⌝ }

@@ -1,8 +1,11 @@
 //! Where readings come from.
 mod decoder;
+mod packs;
 mod tables;
 
 pub use decoder::CHUNK;
 pub use decoder::ChunkDecoder;
+pub use packs::Packed;
+pub use packs::PackedDecoder;
 pub use tables::Table;
 pub use tables::TableDecoder;
