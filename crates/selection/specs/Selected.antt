@@ -35,6 +35,14 @@ abbrev pub fromBits : (ℕ → Bool) → ℕ → ℕ
 fromBits f zero = 0
 fromBits f (suc n) = fromBits f n + cond (f n) (2 ^ n) 0
 
+-- bit j of bytes, counted from bit s
+abbrev pub bitPast : List ℕ → ℕ → ℕ → Bool
+bitPast bytes s j = bit bytes (s + j)
+
+-- the number that n bits make, from bit s on
+unfoldable pub bitsFrom : List ℕ → ℕ → ℕ → ℕ
+bitsFrom bytes s n = fromBits (bitPast bytes s) n
+
 abbrev pub among : ℕ → List ℕ → Bool
 among k [] = false
 among k (x ∷ xs) = eqb x k || among k xs
@@ -58,6 +66,14 @@ RunsRise lo hi (r ∷ rs) = (lo ≤ r .start) × (r .start < r .«end») × (r .
 -- the positions of a run
 abbrev pub range : Run → List ℕ
 range r = counting (r .start) (r .«end» - r .start)
+
+-- bit j of word k of a window, and none past the window
+abbrev pub wordBit : Window → ℕ → ℕ → Bool
+wordBit w k j = windowBit w (64 * k + j) && ltb (64 * k + j) (w .len)
+
+-- word k of a window: the 64 bits from bit 64 k on
+unfoldable pub wordOf : Window → ℕ → ℕ
+wordOf w k = fromBits (wordBit w k) 64
 
 -- whether a position is selected
 abbrev pub picks : Selection → ℕ → Bool

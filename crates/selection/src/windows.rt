@@ -1,12 +1,12 @@
 //! Bits of borrowed bytes.
 ghost use mathlib.Core.Path.{_≡_};
-ghost use Prim.Native.Nat.{_+_, _*_, _/_, _<_};
 ghost use lib.ListN.{length};
 ghost use Rattle.std.specs.Iters.{counting};
 ghost use Rattle.std.specs.shelf.Lists.{kept-by};
 ghost use Rattle.std.specs.declared.option.Option.the-variants.{None};
 ghost use Rattle.selection.specs.Refusals.{answered};
-ghost use Rattle.selection.specs.Selected.{bit, windowBit, windowFault};
+ghost use Rattle.selection.specs.Selected.{windowBit, windowFault, wordOf};
+use super::loads::bits_at;
 use super::refusals::Refusal;
 
 /// The longest selection.
@@ -40,22 +40,21 @@ impl Window<'_> {
         requires { ⌜ windowFault self ≡ None ⌝ }
         ensures { λ r. ⌜ r ≡ length (kept-by (windowBit (self .entry)) (counting 0 (self .entry .len))) ⌝ }
     {
-        let byte = self.start / 8;
-        let shift = self.start % 8;
         let mut n = 0;
-        for k in 0..self.len {
-            if bit_at(self.bytes, byte, shift + k) {
-                n += 1;
-            }
+        for k in 0..self.len.div_ceil(64) {
+            n += u64::from(self.word(k).count_ones());
         }
         n
     }
-}
 
-/// Bit `k`, counted from the first of a byte.
-fn bit_at(bytes: &[u8], byte: u64, k: u64) -> bool
-    requires { ⌜ byte + k / 8 < length (now bytes) ⌝ }
-    ensures { λ r. ⌜ r ≡ bit (now (bytes .entry)) (8 * byte + k) ⌝ }
-{
-    (bytes[(byte + k / 8) as usize] >> (k % 8)) % 2 == 1
+    /// Word `k` of the window: its 64 bits from bit `64 * k` on, and 0 for those past it.
+    pub fn word(self, k: u64) -> u64
+        ensures { λ r. ⌜ r ≡ wordOf (self .entry) k ⌝ }
+    {
+        if k > self.len / 64 {
+            return 0;
+        }
+        let n = (self.len - 64 * k).min(64);
+        bits_at(self.bytes, self.start / 8 + 8 * k, self.start % 8, n)
+    }
 }

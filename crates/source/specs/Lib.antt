@@ -1,2 +1,3 @@
 pub mod Fetched
 pub mod Parts
+pub mod Packing

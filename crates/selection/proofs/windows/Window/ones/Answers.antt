@@ -1,37 +1,31 @@
-use Prim.Native.Nat.{ℕ, _+_, _*_, _/_, _%_}
-use mathlib.Core.Path.{_≡_, sym, ap, subst, _∙_}
-use mathlib.Core.Bool.{cond}
-use mathlib.Core.List.{_++_, [], _∷_, map}
+use Prim.Native.Nat.{min, _+_, _*_, _^_, _<_}
+use mathlib.Core.Path.{_≡_, ap, ap₂, _∙_}
 use borrow.Author.Needs.{needs}
-use denote.Ref.{now}
-use lib.ListN.{length}
 use native.Mathlib.Omega.{arith}
-use Rattle.std.specs.Iters.{counting}
-use Rattle.std.specs.shelf.Lists.{kept-by}
-use Rattle.std.proofs.shelf.Lists.{length-append}
-use Rattle.std.proofs.shelf.Tests.{ltb-false}
-use Rattle.std.proofs.shelf.Ways.{tells}
-use Rattle.selection.specs.Selected.{bit, windowBit}
+use lib.Count.{ones}
+use Rattle.selection.specs.Selected.{windowBit}
+use Rattle.selection.proofs.Bits.{tally, tally-le}
 use Rattle.selection.proofs.Faults.{window-within}
-use Rattle.selection.proofs.Filtered.{count-kept-more}
+use Rattle.selection.proofs.Fields.{ones-word}
 use Rattle.selection.proofs.windows.Window.ones.Needs as need
-use Rattle.selection.proofs.windows.Window.ones.Needs.{then-bit-at, else-bit-at}
 
-pub bit-at-requires : need.bit-at-requires
-bit-at-requires c κs = let h = window-within (c .args .self) (c .pre) in omega arith
+-- the bits of one word more
+more : (c : need.After-from-n) → c .loop-k .n + c .from-n .result ≡ tally (windowBit (c .args .self)) (min (c .args .self .len) (64 * (c .loop-k .k + 1)))
+more c = ap₂ (λ a b. a + b) (c .loop-k .inv) (c .from-n .ensures ∙ ap ones (c .word .ensures)) ∙ ones-word (c .args .self) (c .loop-k .k)
+
+pub add-n : need.add-n
+add-n c =
+    let e = more c in
+    let most = tally-le (windowBit (c .args .self)) (min (c .args .self .len) (64 * (c .loop-k .k + 1))) in
+    let h = window-within (c .args .self) (c .pre) in
+    let fits : c .loop-k .n + c .from-n .result < 2 ^ 64 = omega arith in
+    search needs
 
 pub loop-k-again : need.loop-k-again
-loop-k-again c =
-    let k = c .loop-k .k in
-    let inv = c .loop-k .inv .0 in
-    let start = c .args .self .start in
-    let at : 8 * (start / 8) + (start % 8 + k) ≡ start + k = omega arith in
-    let b : c .bit-at .result ≡ windowBit (c .args .self) k = c .bit-at .ensures ∙ ap (bit (c .args .self .bytes .now)) at in
-    let more = count-kept-more (windowBit (c .args .self)) k in
-    elim (c .if-bit-at .came) [
-      | then-bit-at w ↦ let i = w .n-is in let t = w .if-bit-at .taken in (grind (arith, tells), omega arith)
-      | else-bit-at w ↦ let i = w .n-is in let t = w .if-bit-at .left in (grind (arith, tells), omega arith)
-    ]
+loop-k-again c = more c
 
 pub returns : need.returns
-returns c = let e : c .loop-k .k ≡ c .args .self .len = omega arith in rw (← e) (c .loop-k .inv .0)
+returns c =
+    let up = c .div-ceil-k-end .ensures in
+    let all : min (c .args .self .len) (64 * c .loop-k .k) ≡ c .args .self .len = omega arith in
+    c .loop-k .inv ∙ ap (tally (windowBit (c .args .self))) all
