@@ -1,8 +1,8 @@
 -- Parts of the number that bytes make.
 use Prim.Native.Nat.{ℕ, suc, min, _+_, _-_, _*_, _/_, _%_, _^_, _≤_, _<_}
 use mathlib.Core.Path.{_≡_, refl, sym, ap, ap₂, subst, _∙_}
-use mathlib.Core.Bool.{_&&_}
-use mathlib.Core.List.{List}
+use mathlib.Core.Bool.{Bool, _&&_}
+use mathlib.Core.List.{List, map}
 use mathlib.Core.Logic.{_⊎_, inl, inr, ⊎-elim}
 use native.Mathlib.Omega.{arith}
 use native.Mathlib.Nat.{add-zero, lt-of-lt-of-le, mod-eq-of-lt, mul-add-div-right, mul-assoc, pow-succ'}
@@ -13,11 +13,15 @@ use lib.Dec.{ltb}
 use lib.ListN.{length, getD, drop}
 use lib.Pow.{pow-add, pow-pos, pow-mono, shl-shr, shr-lt, shr-shr, field, mod-mod-pow, mod-pow-add, high, low}
 use Rattle.std.proofs.shelf.Bits.{and-mask, mod-below, one-shl}
-use Rattle.std.proofs.shelf.Lists.{length-drop}
+use Rattle.std.specs.Iters.{counting}
+use Rattle.std.specs.shelf.Lists.{kept-by}
+use Rattle.std.proofs.shelf.Counted.{fill-by-all, getD-counting, length-counting}
+use Rattle.std.proofs.shelf.Lists.{length-drop, length-map}
+use Rattle.selection.proofs.Filtered.{kept-map}
 use Rattle.std.proofs.shelf.Tests.{cases-lt}
 use Rattle.std.proofs.shelf.Ways.{tells}
 use Rattle.selection.specs.declared.windows.Window.{Window}
-use Rattle.selection.specs.Selected.{bit, bitPast, bitsFrom, fromBits, windowBit, wordBit, wordOf}
+use Rattle.selection.specs.Selected.{bit, bitPast, bitsFrom, fromBits, windowBit, windowBits, windowFrom, wordBit, wordOf}
 use Rattle.selection.proofs.Bits.{numOf, tally, bits-num, from-cut, from-lt, from-same, num-drop, num-lt, num-step, ones-from, tally-same, tally-split}
 
 -- bits from the first of a byte on
@@ -208,3 +212,24 @@ ones-word w k =
     here (inr h) =
         let none : min (w .len - 64 * k) 64 ≡ 0 = omega arith in
         rw none refl
+
+-- bits of a window from a position on
+pub bits-window : (w : Window) (from s n : ℕ) → s ≡ w .start + from → bitsFrom (now (w .bytes)) s n ≡ fromBits (windowFrom w from) n
+unfolding bitsFrom
+bits-window w from s n e = from-same (bitPast (now (w .bytes)) s) (windowFrom w from) n (λ j _. ap (bit (now (w .bytes))) (let same : s + j ≡ w .start + (from + j) = omega arith in same))
+
+-- how many of them are set
+pub ones-bits : (w : Window) (from n k : ℕ) → from + n ≤ w .len → 64 * k < n → tally (windowFrom w from) (64 * k) + ones (windowBits w (from + 64 * k) (n - 64 * k)) ≡ tally (windowFrom w from) (min n (64 * (k + 1)))
+unfolding windowBits
+ones-bits w from n k inside l =
+    let m : ℕ = min (min (n - 64 * k) 64) (w .len - (from + 64 * k)) in
+    let all : 64 * k + m ≡ min n (64 * (k + 1)) = omega arith in
+    let one : ones (fromBits (windowFrom w (from + 64 * k)) m) ≡ tally (λ j. windowFrom w from (64 * k + j)) m = ones-from (windowFrom w (from + 64 * k)) m ∙ tally-same (windowFrom w (from + 64 * k)) (λ j. windowFrom w from (64 * k + j)) m (λ j _. ap (windowBit w) (let same : from + 64 * k + j ≡ from + (64 * k + j) = omega arith in same)) in
+    ap (λ t. tally (windowFrom w from) (64 * k) + t) one ∙ sym (tally-split (windowFrom w from) (64 * k) m) ∙ ap (tally (windowFrom w from)) all
+
+-- a count from a position on
+pub tally-from : (f : ℕ → Bool) (a n : ℕ) → length (kept-by f (counting a n)) ≡ tally (λ j. f (a + j)) n
+tally-from f a n = ap (λ xs. length (kept-by f xs)) (counted n a) ∙ ap length (kept-map f (λ j. a + j) (counting 0 n)) ∙ length-map (kept-by (λ j. f (a + j)) (counting 0 n)) (λ j. a + j)
+  where
+    counted : (n a : ℕ) → counting a n ≡ map (λ j. a + j) (counting 0 n)
+    counted n a = fill-by-all (λ j. a + j) (counting a n) n 0 (length-counting a n) (λ k h. getD-counting a n k 0 h)

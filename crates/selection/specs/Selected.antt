@@ -1,5 +1,5 @@
 -- Which positions a selection picks, and what is wrong with one.
-use Prim.Native.Nat.{ℕ, zero, suc, _+_, _-_, _*_, _/_, _%_, _^_, _<_, _≤_}
+use Prim.Native.Nat.{ℕ, min, zero, suc, _+_, _-_, _*_, _/_, _%_, _^_, _<_, _≤_}
 use mathlib.Core.Bool.{Bool, true, false, cond, _&&_, _||_}
 use mathlib.Core.List.{List, [], _∷_}
 use lib.Dec.{eqb, leb, ltb}
@@ -66,6 +66,18 @@ RunsRise lo hi (r ∷ rs) = (lo ≤ r .start) × (r .start < r .«end») × (r .
 -- the positions of a run
 abbrev pub range : Run → List ℕ
 range r = counting (r .start) (r .«end» - r .start)
+
+-- bit j of a window, counted from a position
+abbrev pub windowFrom : Window → ℕ → ℕ → Bool
+windowFrom w from j = windowBit w (from + j)
+
+-- the number that n bits of a window make from a position on, at most 64 and none past the window
+unfoldable pub windowBits : Window → ℕ → ℕ → ℕ
+windowBits w from n = fromBits (windowFrom w from) (min (min n 64) (w .len - from))
+
+-- how many bits are set from one position up to and without another
+unfoldable pub setBetween : Window → ℕ → ℕ → ℕ
+setBetween w from to = length (kept-by (windowBit w) (counting (min from (w .len)) (min to (w .len) - min from (w .len))))
 
 -- bit j of word k of a window, and none past the window
 abbrev pub wordBit : Window → ℕ → ℕ → Bool

@@ -5,7 +5,7 @@ ghost use Rattle.std.specs.Iters.{counting};
 ghost use Rattle.std.specs.shelf.Lists.{kept-by};
 ghost use Rattle.std.specs.declared.option.Option.the-variants.{None};
 ghost use Rattle.selection.specs.Refusals.{answered};
-ghost use Rattle.selection.specs.Selected.{windowBit, windowFault, wordOf};
+ghost use Rattle.selection.specs.Selected.{setBetween, windowBit, windowBits, windowFault, wordOf};
 use super::loads::bits_at;
 use super::refusals::Refusal;
 
@@ -56,5 +56,29 @@ impl Window<'_> {
         }
         let n = (self.len - 64 * k).min(64);
         bits_at(self.bytes, self.start / 8 + 8 * k, self.start % 8, n)
+    }
+
+    /// The number that `n` bits make from position `from` on: at most 64 bits, and none past the
+    /// window.
+    pub fn bits(self, from: u64, n: u64) -> u64
+        ensures { λ r. ⌜ r ≡ windowBits (self .entry) from n ⌝ }
+    {
+        let n = n.min(64).min(self.len.saturating_sub(from));
+        let shift = self.start % 8 + from % 8;
+        let byte = self.start / 8 + from / 8 + shift / 8;
+        bits_at(self.bytes, byte, shift % 8, n)
+    }
+
+    /// How many bits are set from position `from` up to and without `to`.
+    pub fn ones_between(self, from: u64, to: u64) -> u64
+        ensures { λ r. ⌜ r ≡ setBetween (self .entry) from to ⌝ }
+    {
+        let first = from.min(self.len);
+        let n = to.min(self.len).saturating_sub(first);
+        let mut ones = 0;
+        for k in 0..n.div_ceil(64) {
+            ones += u64::from(self.bits(first + 64 * k, n - 64 * k).count_ones());
+        }
+        ones
     }
 }
