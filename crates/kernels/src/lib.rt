@@ -1,7 +1,9 @@
 //! What moves elements.
+mod byte_compress;
 mod elements;
 mod slice;
 
+pub use byte_compress::table_entry;
 pub use elements::Element;
 pub use elements::Event;
 pub use elements::EventElement;
