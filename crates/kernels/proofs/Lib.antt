@@ -1,2 +1,5 @@
 pub mod Gathered
 pub mod Rows
+pub mod SetBits
+pub mod Walked
+pub mod Masked

@@ -13,5 +13,7 @@ pub use elements::U16Element;
 pub use elements::U32Element;
 pub use elements::U64Element;
 pub use elements::sparse_limit;
+pub use slice::MaskBits;
+pub use slice::compact_by_bitmap;
 pub use slice::copy_at;
 pub use slice::copy_part;
