@@ -1,11 +1,11 @@
 -- The positions of a mask, word by word, and what is left of a compaction.
-use Prim.Native.Nat.{ℕ, zero, suc, _+_, _-_, _*_, _/_, _^_, _≤_, _<_}
+use Prim.Native.Nat.{ℕ, zero, suc, _+_, _-_, _*_, _/_, _%_, _^_, _≤_, _<_}
 use mathlib.Core.Path.{_≡_, refl, sym, ap, subst, _∙_}
 use mathlib.Core.Bool.{Bool, false, cond}
 use mathlib.Core.List.{List, [], _∷_, _++_}
 use native.Mathlib.Omega.{arith}
 use native.Mathlib.Nat.{suc-add}
-use lib.ListN.{length}
+use lib.ListN.{length, getD, set}
 use Rattle.std.specs.Iters.{counting}
 use Rattle.std.specs.shelf.Lists.{All, kept-by}
 use Rattle.std.proofs.shelf.Elements.{all-kept-by, all-weaker, kept-by-append}
@@ -13,9 +13,9 @@ use Rattle.std.proofs.shelf.Lists.{append-nil, length-append}
 use Rattle.selection.specs.Selected.{bitOf}
 use Rattle.selection.proofs.Rising.{rising-all, rising-counting}
 use Rattle.kernels.specs.declared.slice.MaskBits.{MaskBits}
-use Rattle.kernels.specs.Moved.{gather, splice}
-use Rattle.kernels.specs.Masks.{Inside, Masks, maskBit, maskLen, selectedBy, setBits, wordCount}
-use Rattle.kernels.proofs.Gathered.{gather-append, length-gather, splice-none, splice-splice}
+use Rattle.kernels.specs.Moved.{gather, splice, valueAt}
+use Rattle.kernels.specs.Masks.{Covers, Inside, Masks, maskBit, maskLen, maskPositions, selectedBy, setBits, wordCount, wordsBit}
+use Rattle.kernels.proofs.Gathered.{gather-append, length-gather, splice-first, splice-none, splice-splice, valueAt-is}
 use Rattle.kernels.proofs.SetBits.{bits-by-test}
 
 pub counting-split : (m n a : ℕ) → counting a (m + n) ≡ counting a m ++ counting (a + m) n
@@ -116,3 +116,29 @@ left-same {src = src} {out = out} {pos = pos} {total = total} {final = final} qs
 -- nothing is left
 pub left-done : {T : Type 0} {src out : List T} {pos total : ℕ} {final : List T} → Left src out pos [] total final → (pos ≡ total) × (out ≡ final)
 left-done {out = out} {pos = pos} h = let c = h .count in (omega arith, sym (splice-none out pos) ∙ h .written)
+
+-- the first element of what is left is written
+pub left-one : {T : Type 0} {src out : List T} {pos total : ℕ} {final : List T} (p : ℕ) (qs : List ℕ) (y : T) → Left src out pos (p ∷ qs) total final → total ≤ length out → y ≡ getD src p y → Left src (set out pos y) (pos + 1) qs total final
+left-one {src = src} {out = out} {pos = pos} p qs y h l e =
+    let c = h .count in
+    let one : valueAt src p ≡ y ∷ [] = valueAt-is src p y (h .inside .0) ∙ ap (λ v. v ∷ []) (sym e) in
+    record {
+      inside = h .inside .1;
+      count = omega arith;
+      written = sym (splice-first out pos y (gather src qs) (omega arith)) ∙ ap (λ v. splice out pos (v ++ gather src qs)) (sym one) ∙ h .written;
+    }
+
+-- the bits of the word at a place
+pub word-bits : (ws : List ℕ) (k j : ℕ) → j < 64 → bitOf (getD ws k 0) j ≡ wordsBit ws (64 * k + j)
+word-bits ws k j l =
+    let a : k ≡ (64 * k + j) / 64 = omega arith in
+    let b : j ≡ (64 * k + j) % 64 = omega arith in
+    ap (λ x. bitOf (getD ws x 0) j) a ∙ ap (bitOf (getD ws ((64 * k + j) / 64) 0)) b
+
+pub words-left : (ws : List ℕ) (n : ℕ) → Covers ws n → leftOf (wordsBit ws) 0 (length ws) ≡ maskPositions ws n
+unfolding maskPositions
+words-left ws n h = left-all (wordsBit ws) n (length ws) (h .enough) (h .clear)
+
+pub positions-inside : (ws : List ℕ) (n : ℕ) → Inside n (maskPositions ws n)
+unfolding maskPositions
+positions-inside ws n = kept-inside (wordsBit ws) n

@@ -10,6 +10,7 @@ use native.Mathlib.Numerals.{add-one, one-add}
 use lib.Arith.{lt-one}
 use lib.Bits.{bitAnd, and-step, and-self}
 use lib.Count.{trailingZeros, under}
+use lib.Dec.{eqb}
 use lib.ListN.{length}
 use lib.Pow.{pow-pos, shr-le, shr-shr}
 use Rattle.std.specs.Iters.{counting}
@@ -39,6 +40,10 @@ pub no-bits : (k at : ℕ) → setBits k 0 at ≡ []
 unfolding setBits
 no-bits zero at = refl
 no-bits (suc k) at = no-bits k (at + 1)
+
+pub bits-none : (w at : ℕ) → setBits 0 w at ≡ []
+unfolding setBits
+bits-none w at = refl
 
 -- the bits that a test says of places are those of a number from bit a on
 pub bits-by-test : (q : ℕ → Bool) (k w a p : ℕ) → ((j : ℕ) → j < k → q (p + j) ≡ bitOf w (a + j)) → kept-by q (counting p k) ≡ setBits k (w / 2 ^ a) p
@@ -186,3 +191,32 @@ pub counting-inside : (n a k : ℕ) → All (λ p. p < n) (counting a k) → 0 <
 counting-inside n a zero h l = absurd (omega arith)
 counting-inside n a (suc zero) h l = omega arith
 counting-inside n a (suc (suc k)) h l = let r = counting-inside n (a + 1) (suc k) (h .1) (omega arith) in omega arith
+
+-- the lowest bit at another place
+pub bits-moved : (k w a p : ℕ) → setBits k w (a + p) ≡ map (λ j. a + j) (setBits k w p)
+unfolding setBits
+bits-moved zero w a p = refl
+bits-moved (suc k) w a p = go (eqb (w % 2) 1) (let e : a + p + 1 ≡ a + (p + 1) = omega arith in ap (setBits k (w / 2)) e ∙ bits-moved k (w / 2) a (p + 1))
+  where
+    go : (b : Bool) → setBits k (w / 2) (a + p + 1) ≡ map (λ j. a + j) (setBits k (w / 2) (p + 1)) → cond b ((a + p) ∷ setBits k (w / 2) (a + p + 1)) (setBits k (w / 2) (a + p + 1)) ≡ map (λ j. a + j) (cond b (p ∷ setBits k (w / 2) (p + 1)) (setBits k (w / 2) (p + 1)))
+    go true h = ap (λ ys. (a + p) ∷ ys) h
+    go false h = h
+
+-- the set bits of a number by its tests, from a place on
+pub bits-from : (k w at : ℕ) → setBits k w at ≡ map (λ j. at + j) (kept-by (bitOf w) (counting 0 k))
+bits-from k w at =
+    let a : at ≡ at + 0 = omega arith in
+    let one : w / 2 ^ 0 ≡ w = omega arith in
+    ap (setBits k w) a ∙ bits-moved k w at 0 ∙ ap (map (λ j. at + j)) (sym (bits-by-test (bitOf w) k w 0 0 (λ j l. refl) ∙ ap (λ v. setBits k v 0) one))
+
+-- a byte of a word, and the bytes above
+pub bits-byte : (w at b : ℕ) → b < 8 → setBits (64 - 8 * b) (w / 2 ^ (8 * b)) (at + 8 * b) ≡ setBits 8 (w / 2 ^ (8 * b) % 256) (at + 8 * b) ++ setBits (64 - 8 * (b + 1)) (w / 2 ^ (8 * (b + 1))) (at + 8 * (b + 1))
+bits-byte w at b h =
+    let v = w / 2 ^ (8 * b) in
+    let p = at + 8 * b in
+    let m : ℕ = 64 - 8 * (b + 1) in
+    let on : 64 - 8 * b ≡ 8 + m = omega arith in
+    let next : 8 * b + 8 ≡ 8 * (b + 1) = omega arith in
+    let place : p + 8 ≡ at + 8 * (b + 1) = omega arith in
+    let above : v / 2 ^ 8 ≡ w / 2 ^ (8 * (b + 1)) = shr-shr w (8 * b) 8 ∙ ap (λ n. w / 2 ^ n) next in
+    ap (λ k. setBits k v p) on ∙ bits-split 8 m v p ∙ ap₂ (λ xs ys. xs ++ ys) (sym (bits-low 8 v p)) (ap₂ (setBits m) above place)

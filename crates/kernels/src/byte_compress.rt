@@ -1,7 +1,10 @@
 //! Compaction by a table of bytes.
 ghost use mathlib.Core.Path.{_≡_};
-ghost use lib.ListN.{getD};
-ghost use Rattle.kernels.specs.Masks.{rowOf};
+ghost use Prim.Native.Nat.{_+_, _^_, _<_, _≤_};
+ghost use lib.ListN.{getD, length};
+ghost use Rattle.kernels.specs.Moved.{gather, splice};
+ghost use Rattle.kernels.specs.Masks.{Covers, Inside, compacted, maskPositions, rowOf, setBits};
+use super::slice::copy_to;
 
 /// For each byte a row of nine: its set bits, the lowest first, with 0 up to the eighth place, and their number.
 const BYTE_TABLE: [u8; 2304] = [
@@ -2316,8 +2319,73 @@ pub fn table_entry(row: u8, column: usize) -> u8
     ensures { λ r. ⌜ r ≡ getD (rowOf row) column 0 ⌝ }
 {
     if column < 9 {
-        BYTE_TABLE[9 * row as usize + column]
+        row_entry(row, column)
     } else {
         0
     }
+}
+
+fn row_entry(row: u8, column: usize) -> u8
+    requires { ⌜ column < 9 ⌝ }
+    ensures { λ r. ⌜ r ≡ getD (rowOf row) column 0 ⌝ }
+{
+    BYTE_TABLE[9 * row as usize + column]
+}
+
+/// Copies the elements at the set bits of a byte, whose lowest bit stands for `base`, one by one.
+fn walk_row<T: Copy>(src: &[T], byte: u8, base: usize, dst: &mut [T], pos: usize) -> usize
+    requires inside { ⌜ Inside (length (now src)) (setBits 8 byte base) ⌝ }
+    requires room { ⌜ pos + length (setBits 8 byte base) ≤ length (now dst) ⌝ }
+    ensures count { λ r. ⌜ r ≡ pos + length (setBits 8 byte base) ⌝ }
+    ensures written { λ _. ⌜ now (dst .exit) ≡ splice (now (dst .entry)) pos (gather (now (src .entry)) (setBits 8 byte base)) ⌝ }
+{
+    let n = row_entry(byte, 8) as usize;
+    for j in 0..n {
+        dst[pos + j] = src[base + row_entry(byte, j) as usize];
+    }
+    pos + n
+}
+
+/// Copies the elements at the set bits of a byte, and all eight as a block.
+fn compress_byte<T: Copy>(src: &[T], byte: u8, base: usize, dst: &mut [T], pos: usize) -> usize
+    requires inside { ⌜ Inside (length (now src)) (setBits 8 byte base) ⌝ }
+    requires room { ⌜ pos + length (setBits 8 byte base) ≤ length (now dst) ⌝ }
+    ensures count { λ r. ⌜ r ≡ pos + length (setBits 8 byte base) ⌝ }
+    ensures written { λ _. ⌜ now (dst .exit) ≡ splice (now (dst .entry)) pos (gather (now (src .entry)) (setBits 8 byte base)) ⌝ }
+{
+    if byte == 255 {
+        copy_to(src, base, 8, dst, pos);
+        return pos + 8;
+    }
+    walk_row(src, byte, base, dst, pos)
+}
+
+/// Copies the elements at the set bits of a word, byte by byte.
+fn compress_word<T: Copy>(src: &[T], word: u64, base: usize, dst: &mut [T], pos: usize) -> usize
+    requires fits { ⌜ base + 64 ≤ 2 ^ 64 ⌝ }
+    requires inside { ⌜ Inside (length (now src)) (setBits 64 word base) ⌝ }
+    requires room { ⌜ pos + length (setBits 64 word base) ≤ length (now dst) ⌝ }
+    ensures count { λ r. ⌜ r ≡ pos + length (setBits 64 word base) ⌝ }
+    ensures written { λ _. ⌜ now (dst .exit) ≡ splice (now (dst .entry)) pos (gather (now (src .entry)) (setBits 64 word base)) ⌝ }
+{
+    let mut at = pos;
+    for b in 0..8 {
+        at = compress_byte(src, ((word >> (8 * b)) % 256) as u8, base + 8 * b, dst, at);
+    }
+    at
+}
+
+/// Copies the selected elements of `src` to the first places of `dst`, and says how many there are.
+/// The table says which elements a byte selects.
+pub fn compress_words<T: Copy>(src: &[T], words: &[u64], dst: &mut [T]) -> usize
+    requires mask { ⌜ Covers (now words) (length (now src)) ⌝ }
+    requires room { ⌜ length (maskPositions (now words) (length (now src))) ≤ length (now dst) ⌝ }
+    ensures count { λ r. ⌜ r ≡ length (maskPositions (now (words .entry)) (length (now (src .entry)))) ⌝ }
+    ensures written { λ _. ⌜ now (dst .exit) ≡ compacted (now (src .entry)) (maskPositions (now (words .entry)) (length (now (src .entry)))) (now (dst .entry)) ⌝ }
+{
+    let mut pos = 0;
+    for k in 0..words.len() {
+        pos = compress_word(src, words[k], 64 * k, dst, pos);
+    }
+    pos
 }

@@ -3,6 +3,7 @@ mod byte_compress;
 mod elements;
 mod slice;
 
+pub use byte_compress::compress_words;
 pub use byte_compress::table_entry;
 pub use elements::Element;
 pub use elements::Event;
