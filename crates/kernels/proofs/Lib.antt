@@ -3,3 +3,4 @@ pub mod Rows
 pub mod SetBits
 pub mod Walked
 pub mod Masked
+pub mod Runs

@@ -55,7 +55,7 @@ bits-by-test q (suc k) w a p h =
     let rest = bits-by-test q k w (a + 1) (p + 1) (λ j l. let e : p + 1 + j ≡ p + (j + 1) = omega arith in let f : a + (j + 1) ≡ a + 1 + j = omega arith in ap q e ∙ h (j + 1) (omega arith) ∙ ap (bitOf w) f) in
     rw (same, half, rest) refl
 
-half-shr : (w j : ℕ) → w / 2 / 2 ^ j ≡ w / 2 ^ suc j
+pub half-shr : (w j : ℕ) → w / 2 / 2 ^ j ≡ w / 2 ^ suc j
 half-shr w j = shr-shr w 1 j ∙ ap (λ n. w / 2 ^ n) (one-add j)
 
 -- the low j bits, and those above
@@ -99,11 +99,11 @@ bits-low (suc j) w at = go (parity w) (ap (λ v. setBits j v (at + 1)) rest ∙ 
     go (inl e) tail = even-bits j (w % 2 ^ suc j) at (same ∙ e) ∙ tail ∙ sym (even-bits j w at e)
     go (inr e) tail = odd-bits j (w % 2 ^ suc j) at (same ∙ e) ∙ ap (λ ys. at ∷ ys) tail ∙ sym (odd-bits j w at e)
 
-zeros-even : (k w : ℕ) → w % 2 ≡ 0 → trailingZeros (suc k) w ≡ suc (trailingZeros k (w / 2))
+pub zeros-even : (k w : ℕ) → w % 2 ≡ 0 → trailingZeros (suc k) w ≡ suc (trailingZeros k (w / 2))
 unfolding trailingZeros
 zeros-even k w e = rw e refl
 
-zeros-odd : (k w : ℕ) → w % 2 ≡ 1 → trailingZeros (suc k) w ≡ 0
+pub zeros-odd : (k w : ℕ) → w % 2 ≡ 1 → trailingZeros (suc k) w ≡ 0
 unfolding trailingZeros
 zeros-odd k w e = rw e refl
 

@@ -16,5 +16,6 @@ pub use elements::U64Element;
 pub use elements::sparse_limit;
 pub use slice::MaskBits;
 pub use slice::compact_by_bitmap;
+pub use slice::compact_runs_by_bitmap;
 pub use slice::copy_at;
 pub use slice::copy_part;

@@ -108,3 +108,41 @@ pub fn compact_by_bitmap<T: Copy>(src: &[T], bits: MaskBits<'_>, dst: &mut [T]) 
     }
     pos
 }
+
+/// Copies the elements at the set bits of a word, run by run.
+fn walk_runs<T: Copy>(src: &[T], word: u64, base: usize, dst: &mut [T], pos: usize) -> usize
+    requires inside { ⌜ Inside (length (now src)) (setBits 64 word base) ⌝ }
+    requires room { ⌜ pos + length (setBits 64 word base) ≤ length (now dst) ⌝ }
+    ensures count { λ r. ⌜ r ≡ pos + length (setBits 64 word base) ⌝ }
+    ensures written { λ _. ⌜ now (dst .exit) ≡ splice (now (dst .entry)) pos (gather (now (src .entry)) (setBits 64 word base)) ⌝ }
+{
+    let mut w = word;
+    let mut from = base;
+    let mut at = pos;
+    while w != 0 {
+        let z = w.trailing_zeros();
+        w >>= z;
+        from += z as usize;
+        let n = w.trailing_ones() as usize;
+        copy_to(src, from, n, dst, at);
+        from += n;
+        at += n;
+        w = (w >> 1) >> (n - 1);
+    }
+    at
+}
+
+/// Copies the selected elements of `src` to the first places of `dst`, and says how many there are.
+/// Each run of set bits in a word is one copy.
+pub fn compact_runs_by_bitmap<T: Copy>(src: &[T], bits: MaskBits<'_>, dst: &mut [T]) -> usize
+    requires mask { ⌜ Masks bits (length (now src)) ⌝ }
+    requires room { ⌜ length (selectedBy bits) ≤ length (now dst) ⌝ }
+    ensures count { λ r. ⌜ r ≡ length (selectedBy (bits .entry)) ⌝ }
+    ensures written { λ _. ⌜ now (dst .exit) ≡ compacted (now (src .entry)) (selectedBy (bits .entry)) (now (dst .entry)) ⌝ }
+{
+    let mut pos = 0;
+    for k in 0..bits.words() {
+        pos = walk_runs(src, bits.word(k), 64 * k, dst, pos);
+    }
+    pos
+}
