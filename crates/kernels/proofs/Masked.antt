@@ -5,6 +5,7 @@ use mathlib.Core.Bool.{Bool, false, cond}
 use mathlib.Core.List.{List, [], _∷_, _++_}
 use native.Mathlib.Omega.{arith}
 use native.Mathlib.Nat.{suc-add}
+use denote.Ref.{RefT, now}
 use lib.ListN.{length, getD, set}
 use Rattle.std.specs.Iters.{counting}
 use Rattle.std.specs.shelf.Lists.{All, kept-by}
@@ -13,6 +14,7 @@ use Rattle.std.proofs.shelf.Lists.{append-nil, length-append}
 use Rattle.selection.specs.Selected.{bitOf}
 use Rattle.selection.proofs.Rising.{rising-all, rising-counting}
 use Rattle.kernels.specs.declared.slice.MaskBits.{MaskBits}
+use Rattle.kernels.specs.declared.slice.MaskBits.the-variants.{Words}
 use Rattle.kernels.specs.Moved.{gather, splice, valueAt}
 use Rattle.kernels.specs.Masks.{Covers, Inside, Masks, maskBit, maskLen, maskPositions, selectedBy, setBits, wordCount, wordsBit}
 use Rattle.kernels.proofs.Gathered.{gather-append, length-gather, splice-first, splice-none, splice-splice, valueAt-is}
@@ -142,3 +144,11 @@ words-left ws n h = left-all (wordsBit ws) n (length ws) (h .enough) (h .clear)
 pub positions-inside : (ws : List ℕ) (n : ℕ) → Inside n (maskPositions ws n)
 unfolding maskPositions
 positions-inside ws n = kept-inside (wordsBit ws) n
+
+-- words as a mask
+pub words-mask : (ws : RefT (List ℕ)) (n : ℕ) → Covers (now ws) n → Masks (Words ws n) n
+words-mask ws n h = record { long = refl; enough = h .enough; close = h .close; clear = h .clear }
+
+pub words-selected : (ws : RefT (List ℕ)) (n : ℕ) → selectedBy (Words ws n) ≡ maskPositions (now ws) n
+unfolding selectedBy maskPositions
+words-selected ws n = refl

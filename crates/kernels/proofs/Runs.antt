@@ -6,7 +6,8 @@ use mathlib.Core.Logic.{_⊎_, inl, inr}
 use native.Mathlib.Omega.{arith}
 use native.Mathlib.Nat.{pow-suc}
 use lib.Arith.{lt-one}
-use lib.Count.{trailingZeros}
+use lib.Bits.{bitAnd, and-le-l}
+use lib.Count.{ones, ones-le, trailingZeros}
 use lib.ListN.{length, take, drop}
 use lib.Pow.{pow-pos, shr-le, shr-shr}
 use Rattle.std.specs.Iters.{counting}
@@ -88,3 +89,7 @@ run-turn {src = src} {out = out} {at = at} w from n out′ r h l e =
     let rest = setBits 64 (w / 2 ^ trailingZeros 64 w / 2 ^ 1 / 2 ^ (n - 1)) (from + trailingZeros 64 w + n) in
     let size = length-counting (from + trailingZeros 64 w) n in
     left-turn run rest (at + n) out′ (left-same (run ++ rest) (r .parts) h) l (ap (λ m. at + m) (sym size)) (e ∙ ap (splice out at) (sym (gather-counting src n (from + trailingZeros 64 w))))
+
+-- some of the bits of a word are at most 64
+pub part-ones : (w x : ℕ) → w < 2 ^ 64 → ones (bitAnd w x) ≤ 64
+part-ones w x h = let l = and-le-l w x in ones-le 64 (bitAnd w x) (omega arith)

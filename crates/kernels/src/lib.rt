@@ -1,8 +1,10 @@
 //! What moves elements.
+mod buffer;
 mod byte_compress;
 mod elements;
 mod slice;
 
+pub use buffer::compact_words;
 pub use byte_compress::compress_words;
 pub use byte_compress::table_entry;
 pub use elements::Element;
