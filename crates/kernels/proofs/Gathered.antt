@@ -179,3 +179,22 @@ gather-made f n (p ∷ ps) h =
     let inside : p < length (map f (counting 0 n)) = let size = length-map-counting f 0 n in let l = h .0 in omega arith in
     let one : valueAt (map f (counting 0 n)) p ≡ f p ∷ [] = valueAt-is (map f (counting 0 n)) p (f p) inside ∙ ap (λ v. v ∷ []) (getD-map-counting f 0 n p p (f p) (h .0) (omega arith)) in
     ap₂ (λ v vs. v ++ vs) one (gather-made f n ps (h .1))
+
+pub set-splice : {T : Type 0} (xs : List T) (at : ℕ) (y : T) → at < length xs → splice xs at (y ∷ []) ≡ set xs at y
+set-splice xs at y h =
+    let e : at + 0 ≡ at = omega arith in
+    sym (splice-more xs at 0 [] y refl (omega arith)) ∙ ap (λ n. set (splice xs at []) n y) e ∙ ap (λ zs. set zs at y) (splice-none xs at)
+
+-- the first value of a write, and the rest
+pub splice-first : {T : Type 0} (xs : List T) (at : ℕ) (y : T) (vs : List T) → at < length xs → splice xs at (y ∷ vs) ≡ splice (set xs at y) (at + 1) vs
+splice-first xs at y vs h = sym (splice-splice xs at 1 (y ∷ []) vs refl (omega arith)) ∙ ap (λ zs. splice zs (at + 1) vs) (set-splice xs at y h)
+
+-- a part of a slice, replaced by a part of another
+pub put-splice : {T : Type 0} (xs src out : List T) (at from n : ℕ) → from + n ≤ length src → out ≡ take (from + n - from) (drop from src) → take at xs ++ (out ++ drop (at + n - at) (drop at xs)) ≡ splice xs at (take n (drop from src))
+put-splice xs src out at from n h e =
+    let a : from + n - from ≡ n = omega arith in
+    let b : at + n - at ≡ n = omega arith in
+    let same : out ≡ take n (drop from src) = e ∙ ap (λ k. take k (drop from src)) a in
+    let size : length (take n (drop from src)) ≡ n = simp (length-take, length-drop) (omega arith) in
+    let rest : drop (at + n - at) (drop at xs) ≡ drop (at + length (take n (drop from src))) xs = ap (λ k. drop k (drop at xs)) b ∙ drop-drop n at xs ∙ ap (λ k. drop (at + k) xs) (sym size) in
+    ap₂ (λ vs ys. take at xs ++ (vs ++ ys)) same rest
