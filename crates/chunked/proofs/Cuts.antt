@@ -14,7 +14,7 @@ use Rattle.std.specs.shelf.Lists.{All, between, kept-by}
 use Rattle.std.specs.declared.option.Option.{Option}
 use Rattle.std.specs.declared.option.Option.the-variants.{Some, None}
 use Rattle.std.proofs.shelf.Counted.{length-counting}
-use Rattle.std.proofs.shelf.Lists.{append-assoc, append-nil, drop-drop, drop-more, getD-take, getD-map, length-append, length-map, length-take, length-take-le, take-append-drop}
+use Rattle.std.proofs.shelf.Lists.{append-assoc, append-nil, drop-at, drop-drop, drop-more, getD-append-left, getD-append-right, getD-take, getD-map, length-append, length-map, length-take, length-take-le, take-append-drop, take-at}
 use Rattle.std.proofs.shelf.Edits.{getD-between, length-between}
 use Rattle.std.proofs.shelf.Elements.{all-weaker, all-from-getD, all-getD, kept-by-append, kept-by-passes}
 use Rattle.std.proofs.shelf.Tests.{eqb-true, cases-eq, cases-lt, eq-eqb, ne-eqb, lt-ltb, le-ltb, lt-leb, le-leb}
@@ -307,3 +307,52 @@ cut-rises lo hi ps i j c up k =
         let b′ : getD (between i j ps) (suc m) 0 ≡ getD ps (suc (i + m)) 0 = rw on at b in
         let s = rising-step lo hi ps (i + m) up (omega arith) in
         rw (a, b′) s
+
+-- a list that is put together of places before a chunk, of the chunk, and past it
+module _ (xs ys zs : List ℕ) (c : ℕ) (before : All (λ p. p / 1024 < c) xs) (here : All (λ p. p / 1024 ≡ c) ys) (past : All (λ p. c < p / 1024) zs) (some : 0 < length ys) where
+  drop-front : drop (length xs) (xs ++ (ys ++ zs)) ≡ ys ++ zs
+  drop-front = drop-at xs (ys ++ zs) (length xs) refl
+
+  pub part-of : between (length xs) (length xs + length ys) (xs ++ (ys ++ zs)) ≡ ys
+  part-of = let n : length xs + length ys - length xs ≡ length ys = omega arith in ap₂ take n drop-front ∙ take-at ys zs (length ys) refl
+
+  all-long : length (xs ++ (ys ++ zs)) ≡ length xs + (length ys + length zs)
+  all-long = length-append xs (ys ++ zs) ∙ ap (λ n. length xs + n) (length-append ys zs)
+
+  in-part : (k : ℕ) → length xs ≤ k → k < length xs + length ys → getD (xs ++ (ys ++ zs)) k 0 / 1024 ≡ c
+  in-part k a b =
+      let inside : k - length xs < length ys = omega arith in
+      let read : getD (xs ++ (ys ++ zs)) k 0 ≡ getD ys (k - length xs) 0 = getD-append-right xs (ys ++ zs) (length xs) k 0 refl a ∙ getD-append-left ys zs 0 (k - length xs) inside in
+      let e = all-getD (λ p. p / 1024 ≡ c) ys (k - length xs) 0 inside here in
+      omega arith
+
+  pub cut-of : Cut (xs ++ (ys ++ zs)) (length xs) (length xs + length ys) c
+  cut-of = record {
+    more = omega arith;
+    within = let n = all-long in omega arith;
+    before = subst (All (λ p. p / 1024 < c)) (sym (take-at xs (ys ++ zs) (length xs) refl)) before;
+    here = subst (All (λ p. p / 1024 ≡ c)) (sym part-of) here;
+    low = λ k a b. let e = in-part k a b in omega arith;
+    high = λ k a b. let e = in-part k a b in omega arith;
+    parted = λ k a b. let last = at-end b in let e = up-to k a (cases-lt k (length xs)) in omega arith;
+  }
+    where
+      up-to : (k : ℕ) → k < length xs + length ys → (k < length xs) ⊎ (length xs ≤ k) → getD (xs ++ (ys ++ zs)) k 0 / 1024 ≤ c
+      up-to k a (inl l) =
+          let read = getD-append-left xs (ys ++ zs) 0 k l in
+          let e = all-getD (λ p. p / 1024 < c) xs k 0 l before in
+          omega arith
+      up-to k a (inr l) = let e = in-part k l a in omega arith
+
+      at-end : length xs + length ys < length (xs ++ (ys ++ zs)) → c < getD (xs ++ (ys ++ zs)) (length xs + length ys) 0 / 1024
+      at-end b =
+          let n = all-long in
+          let on : length xs + length ys - length xs ≡ length ys = omega arith in
+          let none : length ys - length ys ≡ 0 = omega arith in
+          let read : getD (xs ++ (ys ++ zs)) (length xs + length ys) 0 ≡ getD zs 0 0 =
+              getD-append-right xs (ys ++ zs) (length xs) (length xs + length ys) 0 refl (omega arith)
+              ∙ ap (λ k. getD (ys ++ zs) k 0) on
+              ∙ getD-append-right ys zs (length ys) (length ys) 0 refl (omega arith)
+              ∙ ap (λ k. getD zs k 0) none in
+          let e = all-getD (λ p. c < p / 1024) zs 0 0 (omega arith) past in
+          omega arith

@@ -10,3 +10,4 @@ pub mod Steps
 pub mod Balance
 pub mod Agreement
 pub mod Noted
+pub mod Bitmaps
