@@ -10,8 +10,8 @@ use Rattle.std.specs.shelf.Lists.{All, between, kept-by}
 use Rattle.std.proofs.shelf.Elements.{all-kept-by, all-map, all-weaker, kept-by-append}
 use Rattle.std.proofs.shelf.Lists.{length-append, length-map, map-append}
 use Rattle.selection.specs.declared.windows.Window.{Window}
-use Rattle.selection.specs.Selected.{setBetween, windowBit}
-use Rattle.selection.proofs.Rising.{rising-all, rising-counting}
+use Rattle.selection.specs.Selected.{Rising, setBetween, windowBit, windowPositions}
+use Rattle.selection.proofs.Rising.{rising-all, rising-counting, rising-kept}
 use Rattle.kernels.proofs.Masked.{counting-split}
 use Rattle.chunked.specs.Pushes.{moved}
 use Rattle.chunked.specs.Spans.{boundary}
@@ -79,3 +79,13 @@ set-in-chunk w offset c =
     let a : min (boundary offset (w .len) c) (w .len) ≡ boundary offset (w .len) c = omega arith in
     let b : min (boundary offset (w .len) (c + 1)) (w .len) ≡ boundary offset (w .len) (c + 1) = omega arith in
     ap₂ (λ x y. length (kept-by (windowBit w) (counting x (y - x)))) a b
+
+pub kept-whole : (w : Window) → keptFrom (windowBit w) 0 (w .len) ≡ windowPositions w
+kept-whole w = let n : w .len - 0 ≡ w .len = omega arith in ap (λ m. kept-by (windowBit w) (counting 0 m)) n
+
+-- before the first chunk there is nothing
+pub kept-start : (q : ℕ → Bool) (offset n : ℕ) → keptFrom q 0 (boundary offset n 0) ≡ []
+kept-start q offset n = let z : boundary offset n 0 - 0 ≡ 0 = omega arith in ap (λ m. kept-by q (counting 0 m)) z
+
+pub kept-rises : (q : ℕ → Bool) (n : ℕ) → Rising 0 n (keptFrom q 0 n)
+kept-rises q n = rising-kept q 0 n (counting 0 (n - 0)) (rising-counting 0 (n - 0) n (omega arith))

@@ -350,9 +350,9 @@ module _ (xs ys zs : List ℕ) (c : ℕ) (before : All (λ p. p / 1024 < c) xs) 
           let on : length xs + length ys - length xs ≡ length ys = omega arith in
           let none : length ys - length ys ≡ 0 = omega arith in
           let read : getD (xs ++ (ys ++ zs)) (length xs + length ys) 0 ≡ getD zs 0 0 =
-              getD-append-right xs (ys ++ zs) (length xs) (length xs + length ys) 0 refl (omega arith)
-              ∙ ap (λ k. getD (ys ++ zs) k 0) on
-              ∙ getD-append-right ys zs (length ys) (length ys) 0 refl (omega arith)
-              ∙ ap (λ k. getD zs k 0) none in
+          getD-append-right xs (ys ++ zs) (length xs) (length xs + length ys) 0 refl (omega arith)
+          ∙ ap (λ k. getD (ys ++ zs) k 0) on
+          ∙ getD-append-right ys zs (length ys) (length ys) 0 refl (omega arith)
+          ∙ ap (λ k. getD zs k 0) none in
           let e = all-getD (λ p. c < p / 1024) zs 0 0 (omega arith) past in
           omega arith

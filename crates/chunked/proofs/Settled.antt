@@ -15,11 +15,12 @@ use Rattle.std.proofs.shelf.Lists.{getD-map, length-map, take-all, take-map, dr
 use Rattle.std.proofs.shelf.Ways.{tells}
 use Rattle.selection.specs.declared.refusals.Refusal.{Refusal}
 use Rattle.selection.specs.declared.refusals.Refusal.the-variants.{Beyond, Offset, Scratch}
-use Rattle.selection.specs.declared.selections.Selection.the-variants.{Indices, Runs}
+use Rattle.selection.specs.declared.selections.Selection.the-variants.{Bitmap, Indices, Runs}
+use Rattle.selection.specs.declared.windows.Window.{Window}
 use Rattle.selection.specs.declared.selections.Run.{Run}
 use Rattle.std.specs.declared.result.Result.the-variants.{Ok, Err}
 use Rattle.selection.specs.Refusals.{answered, first, firstOf, settled, when}
-use Rattle.selection.specs.Selected.{Rising, RunsRise, indicesFault, long, range, runsFault, selectionFault}
+use Rattle.selection.specs.Selected.{Rising, RunsRise, indicesFault, long, range, runsFault, selectionFault, positions, windowFault, windowPositions}
 use Rattle.std.proofs.shelf.Tests.{ltb-false}
 use Rattle.selection.proofs.Objections.{answered-err, answered-ok, answered-value, none-each, when-none}
 use Rattle.selection.proofs.Listed.{index-rises, indices-pick, runs-pick-formed, runs-rise, runs-wider}
@@ -137,6 +138,15 @@ module _ (offset : ℕ) (rs : RefT (List Run)) (n : ℕ) (formed : selectionFaul
   pub places-runs : places (record { offset = offset; selection = Runs rs n }) ≡ at offset (joined range (now rs))
   unfolding places
   places-runs = ap (map (moved offset)) (runs-pick-formed rs n (run-parts .1))
+
+-- a well formed bitmap
+pub places-window : (offset : ℕ) (w : Window) → places (record { offset = offset; selection = Bitmap w }) ≡ at offset (windowPositions w)
+unfolding places positions
+places-window offset w = refl
+
+pub window-formed : (w : Window) (o : Option Refusal) → windowFault w ≡ o → selectionFault (Bitmap w) ≡ o
+unfolding selectionFault
+window-formed w o e = e
 
 -- a push with an offset and a scratch that will do
 pub roomy : (scratch offset : ℕ) → roomFault scratch offset ≡ None → (offset ≤ 1024) × (1024 ≤ scratch)

@@ -4,15 +4,16 @@ ghost use mathlib.Core.List.{map};
 ghost use Prim.Native.Nat.{ℕ, _+_, _^_, _<_, _≤_};
 ghost use lib.ListN.{length, getD, drop};
 ghost use Rattle.std.specs.shelf.Lists.{All, between, joined};
-ghost use Rattle.selection.specs.declared.selections.Selection.the-variants.{Indices, Runs};
+ghost use Rattle.selection.specs.declared.selections.Selection.the-variants.{Bitmap, Indices, Runs};
 ghost use Rattle.selection.specs.Refusals.{answered, first};
-ghost use Rattle.selection.specs.Selected.{Rising, RunsRise, noRun, range};
+ghost use Rattle.selection.specs.Selected.{Rising, RunsRise, noRun, range, windowPositions};
 ghost use Rattle.chunked.specs.Prices.{price};
-ghost use Rattle.chunked.specs.Spans.{EndsBy, inSpan, spanEnd, spanStart};
+ghost use Rattle.chunked.specs.Spans.{EndsBy, boundary, inSpan, spanEnd, spanStart};
 ghost use Rattle.chunked.specs.Pushes.{answer, fee as feeUnder, grantFault, moved, pastSource, receipt, roomFault};
 use selection::Refusal;
 use selection::Run;
 use selection::Selection;
+use selection::Window;
 use source::CHUNK;
 
 /// A selection, and what is added to each of its positions.
@@ -212,5 +213,51 @@ pub(crate) fn settle_runs(
     Selection::Runs { runs, len }.check()?;
     terms.check_room(offset)?;
     let receipt = price_runs(terms, offset, runs)?;
+    terms.grant(receipt.count, receipt.fee)
+}
+
+/// The first position of a selection of length `len` that lies in a chunk or past it.
+pub(crate) fn chunk_boundary(chunk: u64, offset: u64, len: u64) -> u64
+    requires { ⌜ chunk ≤ 2 ^ 32 ⌝ }
+    ensures { λ r. ⌜ r ≡ boundary offset len chunk ⌝ }
+{
+    (chunk * CHUNK).saturating_sub(offset).min(len)
+}
+
+/// Count and fee of a bitmap, or the first chunk past the source.
+fn price_bitmap(terms: &Terms, offset: u64, window: Window<'_>) -> Result<Receipt, Refusal>
+    requires small { ⌜ offset ≤ 1024 ⌝ }
+    requires short { ⌜ window .len ≤ 16777216 ⌝ }
+    ensures { λ r. ⌜ r ≡ answered (first (pastSource (now (terms .entry) .chunks)) (map (moved offset) (windowPositions (window .entry)))) (receipt (now (terms .entry)) (map (moved offset) (windowPositions (window .entry)))) ⌝ }
+{
+    let mut count = 0;
+    let mut fee = 0;
+    for chunk in 0..(offset + window.len).div_ceil(CHUNK) {
+        let from = chunk_boundary(chunk, offset, window.len);
+        let to = chunk_boundary(chunk + 1, offset, window.len);
+        let n = window.ones_between(from, to);
+        if n == 0 {
+            continue;
+        }
+        if chunk >= terms.chunks {
+            return Err(Refusal::Beyond { place: chunk });
+        }
+        count += n;
+        fee += chunk_price(terms.limit, n);
+    }
+    Ok(Receipt { count, fee })
+}
+
+/// What a push of a bitmap will answer.
+pub(crate) fn settle_bitmap(
+    terms: &Terms,
+    offset: u64,
+    window: Window<'_>,
+) -> Result<Receipt, Refusal>
+    ensures { λ r. ⌜ r ≡ answer (now (terms .entry)) (record { offset = offset; selection = Bitmap (window .entry) }) ⌝ }
+{
+    window.check()?;
+    terms.check_room(offset)?;
+    let receipt = price_bitmap(terms, offset, window)?;
     terms.grant(receipt.count, receipt.fee)
 }

@@ -67,6 +67,10 @@ RunsRise lo hi (r ∷ rs) = (lo ≤ r .start) × (r .start < r .«end») × (r .
 abbrev pub range : Run → List ℕ
 range r = counting (r .start) (r .«end» - r .start)
 
+-- the positions that a window selects, ascending
+abbrev pub windowPositions : Window → List ℕ
+windowPositions w = kept-by (windowBit w) (counting 0 (w .len))
+
 -- bit j of a window, counted from a position
 abbrev pub windowFrom : Window → ℕ → ℕ → Bool
 windowFrom w from j = windowBit w (from + j)
