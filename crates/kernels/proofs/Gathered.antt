@@ -9,7 +9,7 @@ use Rattle.std.specs.shelf.Lists.{All, joined}
 use Rattle.std.proofs.shelf.Counted.{getD-map-counting, length-map-counting}
 use Rattle.std.proofs.shelf.Elements.{all-getD, all-map, all-take}
 use Rattle.std.proofs.shelf.Lists.{append-nil, drop-append-le, drop-take, take-append-drop, take-append-le, take-take, length-map, length-take-le, map-more, take-at, drop-at, append-assoc, drop-drop, drop-more, take-more, set-at, length-take, length-drop, length-append}
-use Rattle.kernels.specs.Moved.{valueAt, gather, splice}
+use Rattle.kernels.specs.Moved.{valueAt, gather, shifted, splice}
 
 -- each place inside gives one value
 pub length-gather : {T : Type 0} (xs : List T) (ps : List ℕ) → All (λ p. p < length xs) ps → length (gather xs ps) ≡ length ps
@@ -161,6 +161,14 @@ valueAt-take xs n p h =
     let m : ℕ = n - p in
     let on : p + m ≡ n = omega arith in
     ap (λ k. take 1 (drop p (take k xs))) (sym on) ∙ ap (take 1) (drop-take p m xs) ∙ take-take 1 m (drop p xs) (omega arith)
+
+-- values of a part of a slice
+pub gather-slice : {T : Type 0} (xs : List T) (b n : ℕ) (js : List ℕ) → All (λ j. j < n) js → gather (take n (drop b xs)) js ≡ gather xs (map (shifted b 0) js)
+gather-slice xs b n [] h = refl
+gather-slice xs b n (j ∷ js) h =
+    let e : b + j ≡ j + b - 0 = omega arith in
+    let one : valueAt (take n (drop b xs)) j ≡ valueAt xs (j + b - 0) = valueAt-take (drop b xs) n j (h .0) ∙ ap (take 1) (drop-drop j b xs) ∙ ap (valueAt xs) e in
+    ap₂ (λ v vs. v ++ vs) one (gather-slice xs b n js (h .1))
 
 -- a loop that writes f of each of some numbers, one more
 pub write-more : {T : Type 0} (f : ℕ → T) (is : List ℕ) (out : List T) (k : ℕ) → k < length is → k < length out → set (splice out 0 (map f (take k is))) k (f (getD is k 0)) ≡ splice out 0 (map f (take (k + 1) is))

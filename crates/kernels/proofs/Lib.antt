@@ -4,3 +4,4 @@ pub mod SetBits
 pub mod Walked
 pub mod Masked
 pub mod Runs
+pub mod Listed

@@ -2,6 +2,7 @@
 mod buffer;
 mod byte_compress;
 mod elements;
+mod lists;
 mod slice;
 
 pub use buffer::compact_words;
@@ -16,6 +17,7 @@ pub use elements::U16Element;
 pub use elements::U32Element;
 pub use elements::U64Element;
 pub use elements::sparse_limit;
+pub use lists::list_words;
 pub use slice::MaskBits;
 pub use slice::compact_by_bitmap;
 pub use slice::compact_runs_by_bitmap;
