@@ -1,7 +1,7 @@
 -- The positions of a mask, word by word, and what is left of a compaction.
 use Prim.Native.Nat.{ℕ, zero, suc, _+_, _-_, _*_, _/_, _%_, _^_, _≤_, _<_}
 use mathlib.Core.Path.{_≡_, refl, sym, ap, subst, _∙_}
-use mathlib.Core.Bool.{Bool, false, cond}
+use mathlib.Core.Bool.{Bool, false}
 use mathlib.Core.List.{List, [], _∷_, _++_}
 use native.Mathlib.Omega.{arith}
 use native.Mathlib.Nat.{suc-add}
@@ -9,9 +9,11 @@ use denote.Ref.{RefT, now}
 use lib.ListN.{length, getD, set}
 use Rattle.std.specs.Iters.{counting}
 use Rattle.std.specs.shelf.Lists.{All, kept-by}
+use Rattle.std.proofs.shelf.Counted.{length-counting}
 use Rattle.std.proofs.shelf.Elements.{all-kept-by, all-weaker, kept-by-append}
 use Rattle.std.proofs.shelf.Lists.{append-nil, length-append}
 use Rattle.selection.specs.Selected.{bitOf}
+use Rattle.selection.proofs.Filtered.{kept-fewer-all, kept-same}
 use Rattle.selection.proofs.Rising.{rising-all, rising-counting}
 use Rattle.kernels.specs.declared.slice.MaskBits.{MaskBits}
 use Rattle.kernels.specs.declared.slice.MaskBits.the-variants.{Words}
@@ -152,3 +154,12 @@ words-mask ws n h = record { long = refl; enough = h .enough; close = h .close; 
 pub words-selected : (ws : RefT (List ℕ)) (n : ℕ) → selectedBy (Words ws n) ≡ maskPositions (now ws) n
 unfolding selectedBy maskPositions
 words-selected ws n = refl
+
+pub positions-fewer : (ws : List ℕ) (n : ℕ) → length (maskPositions ws n) ≤ n
+unfolding maskPositions
+positions-fewer ws n = let h = kept-fewer-all (wordsBit ws) (counting 0 n) in let e = length-counting 0 n in omega arith
+
+-- words with the bits of a test
+pub positions-same : (ws : List ℕ) (q : ℕ → Bool) (n : ℕ) → ((i : ℕ) → i < n → wordsBit ws i ≡ q i) → maskPositions ws n ≡ kept-by q (counting 0 n)
+unfolding maskPositions
+positions-same ws q n h = kept-same (wordsBit ws) q (counting 0 n) (all-weaker (λ i. (0 ≤ i) × (i < n)) (λ i. wordsBit ws i ≡ q i) (λ i l. h i (l .1)) (counting 0 n) (rising-all 0 n (counting 0 n) (rising-counting 0 n n (omega arith))))

@@ -10,7 +10,7 @@ use Rattle.std.proofs.shelf.Counted.{length-counting}
 use Rattle.std.proofs.shelf.Lists.{drop-more, getD-append-left, getD-append-right, getD-map, length-append, length-map, length-replicate}
 use Rattle.selection.specs.Selected.{bitOf}
 use Rattle.selection.proofs.Filtered.{kept-fewer-all}
-use Rattle.kernels.specs.Masks.{Inside, bitsOf, padded, rowOf, setBits}
+use Rattle.kernels.specs.Masks.{Inside, bitsOf, rowOf, setBits}
 use Rattle.kernels.proofs.Masked.{Left, left-one, left-same}
 use Rattle.kernels.proofs.SetBits.{bits-from}
 

@@ -1,7 +1,7 @@
 -- One turn of a walk over the runs of set bits of a word.
-use Prim.Native.Nat.{ℕ, zero, suc, _+_, _-_, _*_, _/_, _%_, _^_, _≤_, _<_}
-use mathlib.Core.Path.{_≡_, refl, sym, ap, ap₂, subst, _∙_}
-use mathlib.Core.List.{List, [], _∷_, _++_}
+use Prim.Native.Nat.{ℕ, zero, suc, _+_, _-_, _/_, _%_, _^_, _≤_, _<_}
+use mathlib.Core.Path.{_≡_, sym, ap, subst, _∙_}
+use mathlib.Core.List.{List, _++_}
 use mathlib.Core.Logic.{_⊎_, inl, inr}
 use native.Mathlib.Omega.{arith}
 use native.Mathlib.Nat.{pow-suc}
@@ -9,12 +9,12 @@ use lib.Arith.{lt-one}
 use lib.Bits.{bitAnd, and-le-l}
 use lib.Count.{ones, ones-le, trailingZeros}
 use lib.ListN.{length, take, drop}
-use lib.Pow.{pow-pos, shr-le, shr-shr}
+use lib.Pow.{shr-le, shr-shr}
 use Rattle.std.specs.Iters.{counting}
 use Rattle.std.proofs.shelf.Bits.{trailing-le}
 use Rattle.std.proofs.shelf.Counted.{length-counting}
-use Rattle.kernels.specs.Moved.{gather, splice}
-use Rattle.kernels.specs.Masks.{Inside, setBits}
+use Rattle.kernels.specs.Moved.{splice}
+use Rattle.kernels.specs.Masks.{setBits}
 use Rattle.kernels.proofs.Gathered.{gather-counting}
 use Rattle.kernels.proofs.SetBits.{bits-ones, bits-past-zeros, counting-inside, half-shr, parity, zeros-even, zeros-odd}
 use Rattle.kernels.proofs.Masked.{Left, left-first, left-same, left-turn}

@@ -1,22 +1,21 @@
 -- The set bits of a number, taken apart.
-use Prim.Native.Nat.{ℕ, zero, suc, _+_, _-_, _*_, _/_, _%_, _^_, _≤_, _<_, min}
-use mathlib.Core.Path.{_≡_, refl, sym, ap, ap₂, subst, _∙_}
+use Prim.Native.Nat.{ℕ, zero, suc, _+_, _-_, _*_, _/_, _%_, _^_, _≤_, _<_}
+use mathlib.Core.Path.{_≡_, refl, sym, ap, ap₂, _∙_}
 use mathlib.Core.Bool.{Bool, true, false, cond}
-use mathlib.Core.List.{List, [], _∷_, _++_, map}
+use mathlib.Core.List.{[], _∷_, _++_, map}
 use mathlib.Core.Logic.{_⊎_, inl, inr}
 use native.Mathlib.Omega.{arith}
 use native.Mathlib.Nat.{div-eq-of-lt, pow-suc, suc-add}
 use native.Mathlib.Numerals.{add-one, one-add}
 use lib.Arith.{lt-one}
 use lib.Bits.{bitAnd, and-step, and-self}
-use lib.Count.{trailingZeros, under}
+use lib.Count.{trailingZeros}
 use lib.Dec.{eqb}
-use lib.ListN.{length}
 use lib.Pow.{pow-pos, shr-le, shr-shr}
 use Rattle.std.specs.Iters.{counting}
 use Rattle.std.specs.shelf.Lists.{All, kept-by}
 use Rattle.std.proofs.shelf.Bits.{field-of, mod-pow-add}
-use Rattle.std.proofs.shelf.Lists.{append-assoc, append-nil}
+use Rattle.std.proofs.shelf.Lists.{append-nil}
 use Rattle.selection.specs.Selected.{bitOf}
 use Rattle.kernels.specs.Masks.{setBits}
 

@@ -1,12 +1,12 @@
-use Prim.Native.Nat.{ℕ, _+_, _-_, _^_, _<_, _≤_}
-use mathlib.Core.Path.{_≡_, refl, sym, ap, _∙_}
+use Prim.Native.Nat.{_+_, _-_, _^_, _<_}
+use mathlib.Core.Path.{_≡_, sym, ap}
 use mathlib.Core.List.{[]}
 use native.Mathlib.Omega.{arith}
 use borrow.Author.Needs.{needs}
-use lib.ListN.{length, getD, drop}
+use lib.ListN.{length}
 use Rattle.std.proofs.shelf.Lists.{drop-all}
 use Rattle.kernels.specs.Moved.{gather, splice}
-use Rattle.kernels.specs.Masks.{rowOf, setBits}
+use Rattle.kernels.specs.Masks.{setBits}
 use Rattle.kernels.proofs.Masked.{left-done, left-same}
 use Rattle.kernels.proofs.Rows.{row-count, row-inside, row-short, row-turn}
 use Rattle.kernels.proofs.byte_compress.walk_row.Needs as need

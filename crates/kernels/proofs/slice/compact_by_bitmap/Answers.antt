@@ -1,8 +1,7 @@
 use Prim.Native.Nat.{_+_, _*_, _≤_}
-use mathlib.Core.Path.{_≡_, refl, sym, ap, _∙_}
+use mathlib.Core.Path.{refl, sym}
 use mathlib.Core.List.{[], _++_}
 use native.Mathlib.Omega.{arith}
-use borrow.Author.Needs.{needs}
 use lib.ListN.{length}
 use Rattle.kernels.specs.Masks.{compacted, maskBit, selectedBy, setBits, wordCount}
 use Rattle.kernels.proofs.Masked.{left-done, left-first, left-none, left-same, left-turn, left-word, leftOf, mask-left, selected-inside}
