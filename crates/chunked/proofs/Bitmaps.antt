@@ -1,26 +1,29 @@
 -- The places of a bitmap, chunk by chunk.
-use Prim.Native.Nat.{ℕ, min, zero, suc, _+_, _-_, _*_, _/_, _≤_, _<_}
+use Prim.Native.Nat.{ℕ, min, zero, suc, _+_, _-_, _*_, _/_, _%_, _≤_, _<_}
 use mathlib.Core.Path.{_≡_, refl, sym, ap, ap₂, subst, _∙_}
-use mathlib.Core.Bool.{Bool}
+use mathlib.Core.Bool.{Bool, false}
+use mathlib.Core.Logic.{_⊎_, ⊎-elim}
 use mathlib.Core.List.{List, [], _∷_, _++_, map}
 use native.Mathlib.Omega.{arith}
 use lib.ListN.{length, take, drop, getD}
 use Rattle.std.specs.Iters.{counting}
 use Rattle.std.specs.shelf.Lists.{All, between, kept-by}
 use Rattle.std.proofs.shelf.Elements.{all-kept-by, all-map, all-weaker, kept-by-append}
-use Rattle.std.proofs.shelf.Lists.{length-append, length-map, map-append}
+use Rattle.std.proofs.shelf.Lists.{getD-past, length-append, length-map, map-append}
+use Rattle.std.proofs.shelf.Counted.{fill-by-all, getD-counting, length-counting}
+use Rattle.std.proofs.shelf.Tests.{cases-lt}
 use Rattle.selection.specs.declared.windows.Window.{Window}
-use Rattle.selection.specs.Selected.{Rising, setBetween, windowBit, windowPositions}
+use Rattle.selection.specs.Selected.{Rising, bitOf, setBetween, windowBit, windowBits, windowFrom, windowPositions}
+use Rattle.selection.proofs.Bits.{bit-above, bit-from, bit-from-past}
+use Rattle.selection.proofs.Filtered.{kept-map, map-map, map-same}
 use Rattle.selection.proofs.Rising.{rising-all, rising-counting, rising-kept}
-use Rattle.kernels.proofs.Masked.{counting-split}
+use Rattle.kernels.specs.Moved.{shifted}
+use Rattle.kernels.specs.Masks.{Covers, maskPositions, wordsBit}
+use Rattle.kernels.proofs.Masked.{counting-split, positions-inside, positions-same}
 use Rattle.chunked.specs.Pushes.{moved}
-use Rattle.chunked.specs.Spans.{boundary}
+use Rattle.chunked.specs.Spans.{boundary, keptFrom}
 use Rattle.chunked.proofs.Cuts.{Cut, cut-of, part-of}
 use Rattle.chunked.proofs.Settled.{at}
-
--- the positions from a up to b that a test keeps
-abbrev pub keptFrom : (ℕ → Bool) → ℕ → ℕ → List ℕ
-keptFrom q a b = kept-by q (counting a (b - a))
 
 pub kept-split : (q : ℕ → Bool) (a b d : ℕ) → a ≤ b → b ≤ d → keptFrom q a d ≡ keptFrom q a b ++ keptFrom q b d
 kept-split q a b d h l =
@@ -89,3 +92,42 @@ kept-start q offset n = let z : boundary offset n 0 - 0 ≡ 0 = omega arith in a
 
 pub kept-rises : (q : ℕ → Bool) (n : ℕ) → Rising 0 n (keptFrom q 0 n)
 kept-rises q n = rising-kept q 0 n (counting 0 (n - 0)) (rising-counting 0 (n - 0) n (omega arith))
+
+-- words that were loaded from a window
+module _ (w : Window) (from n : ℕ) (ws : List ℕ) (enough : n ≤ 64 * length ws) (close : 64 * length ws < n + 64) (inside : from + n ≤ w .len) (loaded : (j : ℕ) → j < length ws → getD ws j 0 ≡ windowBits w (from + 64 * j) (n - 64 * j)) where
+  word-bit : (i : ℕ) → i < n → wordsBit ws i ≡ windowFrom w from i
+  unfolding windowBits
+  word-bit i h =
+      let m : ℕ = i / 64 in
+      let size : i % 64 < min (min (n - 64 * m) 64) (w .len - (from + 64 * m)) = omega arith in
+      let same : from + 64 * m + i % 64 ≡ from + i = omega arith in
+      ap (λ x. bitOf x (i % 64)) (loaded m (omega arith)) ∙ bit-from (windowFrom w (from + 64 * m)) (min (min (n - 64 * m) 64) (w .len - (from + 64 * m))) (i % 64) size ∙ ap (windowBit w) same
+
+  word-past : (i : ℕ) → n ≤ i → wordsBit ws i ≡ false
+  unfolding windowBits
+  word-past i h = ⊎-elim there gone (cases-lt (i / 64) (length ws))
+    where
+      there : i / 64 < length ws → wordsBit ws i ≡ false
+      there l =
+          let m : ℕ = i / 64 in
+          ap (λ x. bitOf x (i % 64)) (loaded m l) ∙ bit-from-past (windowFrom w (from + 64 * m)) (min (min (n - 64 * m) 64) (w .len - (from + 64 * m))) (i % 64) (omega arith)
+
+      gone : length ws ≤ i / 64 → wordsBit ws i ≡ false
+      gone l = ap (λ x. bitOf x (i % 64)) (getD-past ws (i / 64) 0 l) ∙ bit-above 0 0 (i % 64) (omega arith) (omega arith)
+
+  pub loaded-covers : Covers ws n
+  loaded-covers = record { enough = enough; close = close; clear = word-past }
+
+  pub loaded-picks : maskPositions ws n ≡ kept-by (windowFrom w from) (counting 0 n)
+  loaded-picks = positions-same ws (windowFrom w from) n word-bit
+
+-- positions from one on, counted from there
+pub kept-from : (q : ℕ → Bool) (offset a b base : ℕ) → base ≡ offset + a → map (moved base) (kept-by (λ j. q (a + j)) (counting 0 (b - a))) ≡ at offset (keptFrom q a b)
+kept-from q offset a b base e =
+    let xs = kept-by (λ j. q (a + j)) (counting 0 (b - a)) in
+    let same : map (moved base) (kept-by (λ j. q (a + j)) (counting 0 (b - a))) ≡ map (λ j. moved offset (a + j)) (kept-by (λ j. q (a + j)) (counting 0 (b - a))) = map-same (moved base) (λ j. moved offset (a + j)) (kept-by (λ j. q (a + j)) (counting 0 (b - a))) (all-kept-by (λ j. q (a + j)) (λ j. moved base j ≡ moved offset (a + j)) (counting 0 (b - a)) (all-weaker (λ j. (0 ≤ j) × (j < b - a)) (λ j. moved base j ≡ moved offset (a + j)) (λ j _. omega arith) (counting 0 (b - a)) (rising-all 0 (b - a) (counting 0 (b - a)) (rising-counting 0 (b - a) (b - a) (omega arith))))) in
+    same ∙ sym (map-map (moved offset) (λ j. a + j) (kept-by (λ j. q (a + j)) (counting 0 (b - a)))) ∙ ap (at offset) (sym (kept-map q (λ j. a + j) (counting 0 (b - a))) ∙ ap (kept-by q) (sym (fill-by-all (λ j. a + j) (counting a (b - a)) (b - a) 0 (length-counting a (b - a)) (λ k h. getD-counting a (b - a) k 0 h))))
+
+-- the places of words in a chunk, by their index there
+pub words-back : (ws : List ℕ) (n chunk up : ℕ) → map (shifted up 0) (maskPositions ws n) ≡ map (shifted 0 (chunk * 1024)) (map (moved (chunk * 1024 + up)) (maskPositions ws n))
+words-back ws n chunk up = map-same (shifted up 0) (λ i. shifted 0 (chunk * 1024) (moved (chunk * 1024 + up) i)) (maskPositions ws n) (all-weaker (λ i. i < n) (λ i. shifted up 0 i ≡ shifted 0 (chunk * 1024) (moved (chunk * 1024 + up) i)) (λ i _. omega arith) (maskPositions ws n) (positions-inside ws n)) ∙ sym (map-map (shifted 0 (chunk * 1024)) (moved (chunk * 1024 + up)) (maskPositions ws n))

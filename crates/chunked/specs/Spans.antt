@@ -1,8 +1,9 @@
 -- The places of runs within bounds.
 use Prim.Native.Nat.{ℕ, min, max, _+_, _-_, _*_, _^_, _<_, _≤_}
+use mathlib.Core.Bool.{Bool}
 use mathlib.Core.List.{List}
 use Rattle.std.specs.Iters.{counting}
-use Rattle.std.specs.shelf.Lists.{joined}
+use Rattle.std.specs.shelf.Lists.{joined, kept-by}
 use Rattle.selection.specs.declared.selections.Run.{Run}
 
 -- where a run at an offset begins and ends, cut to the bounds
@@ -33,3 +34,7 @@ pub record Spans (offset lo hi base : ℕ) (r : Run) : Type 0 where
 -- the first position of a selection of length n that lies in chunk c or past it
 abbrev pub boundary : ℕ → ℕ → ℕ → ℕ
 boundary offset n c = min (c * 1024 - offset) n
+
+-- the positions from a up to b that a test keeps
+abbrev pub keptFrom : (ℕ → Bool) → ℕ → ℕ → List ℕ
+keptFrom q a b = kept-by q (counting a (b - a))

@@ -5,8 +5,9 @@ ghost use Prim.Native.Nat.{_+_, _-_, _*_, _^_, _<_, _≤_};
 ghost use lib.ListN.{length, drop};
 ghost use Rattle.std.specs.Iters.{counting};
 ghost use Rattle.std.specs.declared.option.Option.the-variants.{None};
-ghost use Rattle.std.specs.shelf.Lists.{All, joined};
-ghost use Rattle.selection.specs.Selected.{Rising, RunsRise, range};
+ghost use Rattle.std.specs.shelf.Lists.{All, joined, kept-by};
+ghost use Rattle.selection.specs.Selected.{Rising, RunsRise, range, windowBit, windowFrom, windowPositions};
+ghost use Rattle.kernels.specs.Masks.{Covers, maskPositions};
 ghost use Rattle.kernels.specs.Moved.{Within, gather, shifted, sparseLimit, splice};
 ghost use Rattle.chunked.specs.Pushes.{Servable, declined, moved, offered, serving, storing};
 ghost use Rattle.chunked.specs.Spans.{Spans, inSpan};
@@ -14,10 +15,13 @@ ghost use Rattle.source.specs.Fetched.{fetchFault, holding, placeIn, wholeChunk
 use super::settle::cut_run;
 use super::settle::end_below;
 use super::settle::runs_below;
+use kernels::compact_words;
 use kernels::copy_at;
 use kernels::copy_part;
+use kernels::list_words;
 use kernels::sparse_limit;
 use selection::Run;
+use selection::Window;
 use source::CHUNK;
 use source::ChunkDecoder;
 
@@ -250,5 +254,58 @@ pub(crate) fn serve_runs<D: ChunkDecoder>(
         done += part.count as usize;
         next = part.next;
         resume = end;
+    }
+}
+
+/// Loads `n` bits of a window, from a position on, as words.
+fn load_words(window: Window<'_>, from: u64, n: u64, words: &mut [u64])
+    requires enough { ⌜ n ≤ 64 * length (now words) ⌝ }
+    requires close { ⌜ 64 * length (now words) < n + 64 ⌝ }
+    requires inside { ⌜ from + n ≤ window .len ⌝ }
+    ensures covers { λ _. ⌜ Covers (now (words .exit)) n ⌝ }
+    ensures picks { λ _. ⌜ maskPositions (now (words .exit)) n ≡ kept-by (windowFrom (window .entry) from) (counting 0 n) ⌝ }
+{
+    for k in 0..words.len() {
+        let at = 64 * k as u64;
+        words[k] = window.bits(from + at, n - at);
+    }
+}
+
+/// Serves what words select of one chunk, from its place `up` on, with the output written from `at`
+/// on: one by one, straight to the output, or through scratch.
+fn serve_chunk_words<D: ChunkDecoder>(
+    source: &mut D,
+    chunk: u64,
+    up: u64,
+    words: &[u64],
+    len: usize,
+    n: u64,
+    output: &mut [D::Item],
+    at: usize,
+    scratch: &mut [D::Item],
+)
+    requires servable { ⌜ Servable (offered (sparseLimit (Item·Element .bytes)) (storing (D·ChunkDecoder .readings (now source)) (D·ChunkDecoder .allowance (now source)) (now output) (now scratch)) at) chunk (map (moved (chunk * 1024 + up)) (maskPositions (now words) len)) ⌝ }
+    requires mask { ⌜ Covers (now words) len ⌝ }
+    requires inside { ⌜ up + len ≤ 1024 ⌝ }
+    requires count { ⌜ n ≡ length (maskPositions (now words) len) ⌝ }
+    ensures { λ _. ⌜ storing (D·ChunkDecoder .readings (now (source .exit))) (D·ChunkDecoder .allowance (now (source .exit))) (now (output .exit)) (now (scratch .exit)) ≡ serving (sparseLimit (Item·Element .bytes)) (storing (D·ChunkDecoder .readings (now (source .entry))) (D·ChunkDecoder .allowance (now (source .entry))) (now (output .entry)) (now (scratch .entry))) at (map (moved (chunk * 1024 + up)) (maskPositions (now (words .entry)) len)) ⌝ }
+{
+    let limit = sparse_limit::<D::Item>();
+    if n <= limit {
+        let mut buffer = [0u64; 160];
+        let picked = &mut buffer[..];
+        let _ = list_words(words, len, up, picked);
+        fetch_indices(source, chunk, &picked[0..n as usize], output, at);
+    } else if n == CHUNK {
+        fetch_chunk(source, chunk, output, at);
+    } else {
+        fetch_chunk(source, chunk, scratch, 0);
+        let first = up as usize;
+        let _ = compact_words(
+            &scratch[first..first + len],
+            words,
+            n as usize,
+            &mut output[at..],
+        );
     }
 }

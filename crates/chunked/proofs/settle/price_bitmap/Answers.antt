@@ -12,8 +12,8 @@ use Rattle.std.specs.declared.result.Result.the-variants.{Ok}
 use Rattle.chunked.specs.declared.settle.Receipt.{Receipt}
 use Rattle.chunked.specs.Prices.{price}
 use Rattle.chunked.specs.Pushes.{moved, pastSource, receipt}
-use Rattle.chunked.specs.Spans.{boundary}
-use Rattle.chunked.proofs.Bitmaps.{bitmap-cut, count-next, kept-rises, kept-start, kept-whole, keptFrom, set-in-chunk}
+use Rattle.chunked.specs.Spans.{boundary, keptFrom}
+use Rattle.chunked.proofs.Bitmaps.{bitmap-cut, count-next, kept-rises, kept-start, kept-whole, set-in-chunk}
 use Rattle.chunked.proofs.Settled.{Priced, at, count-limit, price-most, priced-none, priced-more, priced-all, priced-past}
 use Rattle.chunked.proofs.settle.price_bitmap.Needs as need
 

@@ -1,8 +1,7 @@
 use mathlib.Core.Path.{_≡_}
 use lib.ListN.{length}
 use Rattle.selection.specs.Selected.{windowBit}
-use Rattle.chunked.specs.Spans.{boundary}
-use Rattle.chunked.proofs.Bitmaps.{keptFrom}
+use Rattle.chunked.specs.Spans.{boundary, keptFrom}
 use Rattle.chunked.proofs.Settled.{Priced, at}
 use Rattle.chunked.proofs.settle.price_bitmap.Given as given
 
