@@ -15,7 +15,7 @@ use Rattle.std.proofs.shelf.Tests.{cases-lt}
 use Rattle.selection.specs.declared.windows.Window.{Window}
 use Rattle.selection.specs.Selected.{Rising, bitOf, setBetween, windowBit, windowBits, windowFrom, windowPositions}
 use Rattle.selection.proofs.Bits.{bit-above, bit-from, bit-from-past}
-use Rattle.selection.proofs.Filtered.{kept-map, map-map, map-same}
+use Rattle.selection.proofs.Filtered.{kept-fewer-all, kept-map, map-map, map-same}
 use Rattle.selection.proofs.Rising.{rising-all, rising-counting, rising-kept}
 use Rattle.kernels.specs.Moved.{shifted}
 use Rattle.kernels.specs.Masks.{Covers, maskPositions, wordsBit}
@@ -131,3 +131,10 @@ kept-from q offset a b base e =
 -- the places of words in a chunk, by their index there
 pub words-back : (ws : List ℕ) (n chunk up : ℕ) → map (shifted up 0) (maskPositions ws n) ≡ map (shifted 0 (chunk * 1024)) (map (moved (chunk * 1024 + up)) (maskPositions ws n))
 words-back ws n chunk up = map-same (shifted up 0) (λ i. shifted 0 (chunk * 1024) (moved (chunk * 1024 + up) i)) (maskPositions ws n) (all-weaker (λ i. i < n) (λ i. shifted up 0 i ≡ shifted 0 (chunk * 1024) (moved (chunk * 1024 + up) i)) (λ i _. omega arith) (maskPositions ws n) (positions-inside ws n)) ∙ sym (map-map (shifted 0 (chunk * 1024)) (moved (chunk * 1024 + up)) (maskPositions ws n))
+
+-- a range with something kept is not empty
+pub kept-some : (q : ℕ → Bool) (a b : ℕ) → 0 < length (keptFrom q a b) → a < b
+kept-some q a b h =
+    let most = kept-fewer-all q (counting a (b - a)) in
+    let size = length-counting a (b - a) in
+    omega arith

@@ -148,6 +148,10 @@ pub window-formed : (w : Window) (o : Option Refusal) → windowFault w ≡ o �
 unfolding selectionFault
 window-formed w o e = e
 
+pub formed-window : (w : Window) → selectionFault (Bitmap w) ≡ None → windowFault w ≡ None
+unfolding selectionFault
+formed-window w e = e
+
 -- a push with an offset and a scratch that will do
 pub roomy : (scratch offset : ℕ) → roomFault scratch offset ≡ None → (offset ≤ 1024) × (1024 ≤ scratch)
 roomy scratch offset e =

@@ -1,19 +1,22 @@
 //! A filter over a source.
 ghost use mathlib.Core.Path.{_≡_};
 ghost use Prim.Native.Nat.{_-_};
-ghost use Rattle.selection.specs.declared.selections.Selection.the-variants.{Indices, Runs};
+ghost use Rattle.selection.specs.declared.selections.Selection.the-variants.{Bitmap, Indices, Runs};
 ghost use Rattle.kernels.specs.Moved.{sparseLimit};
 ghost use Rattle.source.specs.Fetched.{chunksOf};
 ghost use Rattle.chunked.specs.Pushes.{answer, next, stateOf, termsOf};
+use super::serve::serve_bitmap;
 use super::serve::serve_indices;
 use super::serve::serve_runs;
 use super::settle::Receipt;
 use super::settle::Terms;
+use super::settle::settle_bitmap;
 use super::settle::settle_indices;
 use super::settle::settle_runs;
 use kernels::sparse_limit;
 use selection::Refusal;
 use selection::Run;
+use selection::Window;
 use source::ChunkDecoder;
 
 /// Picks readings from a source that it owns, and keeps two totals.
@@ -123,6 +126,27 @@ impl<D: ChunkDecoder> ChunkedFilter<D> {
         let receipt = settle_runs(&terms, offset, runs, len)?;
         let at = self.written as usize;
         serve_runs(&mut self.source, offset, runs, output, at, scratch);
+        self.written = self.written.wrapping_add(receipt.count);
+        self.fees = self.fees.wrapping_add(receipt.fee);
+        Ok(receipt)
+    }
+
+    /// Writes the readings at the positions of a bitmap, each moved by the offset, to the next places of
+    /// `output`, and pays for them; or refuses, and leaves everything as it was.
+    pub fn push_bitmap(
+        &mut self,
+        offset: u64,
+        window: Window<'_>,
+        output: &mut [D::Item],
+        scratch: &mut [D::Item],
+    ) -> Result<Receipt, Refusal>
+        ensures value { λ r. ⌜ r ≡ answer (termsOf (sparseLimit (Item·Element .bytes)) (stateOf (D·ChunkDecoder .readings) (D·ChunkDecoder .allowance) (now (self .entry)) (now (output .entry)) (now (scratch .entry)))) (record { offset = offset; selection = Bitmap (window .entry) }) ⌝ }
+        ensures after { λ _. ⌜ stateOf (D·ChunkDecoder .readings) (D·ChunkDecoder .allowance) (now (self .exit)) (now (output .exit)) (now (scratch .exit)) ≡ next (sparseLimit (Item·Element .bytes)) (stateOf (D·ChunkDecoder .readings) (D·ChunkDecoder .allowance) (now (self .entry)) (now (output .entry)) (now (scratch .entry))) (record { offset = offset; selection = Bitmap (window .entry) }) ⌝ }
+    {
+        let terms = self.terms(output.len(), scratch.len());
+        let receipt = settle_bitmap(&terms, offset, window)?;
+        let at = self.written as usize;
+        serve_bitmap(&mut self.source, offset, window, output, at, scratch);
         self.written = self.written.wrapping_add(receipt.count);
         self.fees = self.fees.wrapping_add(receipt.fee);
         Ok(receipt)

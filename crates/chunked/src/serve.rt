@@ -10,8 +10,9 @@ ghost use Rattle.selection.specs.Selected.{Rising, RunsRise, range, windowBit, 
 ghost use Rattle.kernels.specs.Masks.{Covers, maskPositions};
 ghost use Rattle.kernels.specs.Moved.{Within, gather, shifted, sparseLimit, splice};
 ghost use Rattle.chunked.specs.Pushes.{Servable, declined, moved, offered, serving, storing};
-ghost use Rattle.chunked.specs.Spans.{Spans, inSpan};
+ghost use Rattle.chunked.specs.Spans.{Spans, inSpan, keptFrom};
 ghost use Rattle.source.specs.Fetched.{fetchFault, holding, placeIn, wholeChunk};
+use super::settle::chunk_boundary;
 use super::settle::cut_run;
 use super::settle::end_below;
 use super::settle::runs_below;
@@ -307,5 +308,75 @@ fn serve_chunk_words<D: ChunkDecoder>(
             n as usize,
             &mut output[at..],
         );
+    }
+}
+
+/// Serves the positions of a bitmap from `from` up to `to`, `n` of them, which lie in one chunk, with
+/// the output written from `at` on.
+fn serve_chunk_bitmap<D: ChunkDecoder>(
+    source: &mut D,
+    chunk: u64,
+    offset: u64,
+    window: Window<'_>,
+    from: u64,
+    to: u64,
+    n: u64,
+    output: &mut [D::Item],
+    at: usize,
+    scratch: &mut [D::Item],
+)
+    requires servable { ⌜ Servable (offered (sparseLimit (Item·Element .bytes)) (storing (D·ChunkDecoder .readings (now source)) (D·ChunkDecoder .allowance (now source)) (now output) (now scratch)) at) chunk (map (moved offset) (keptFrom (windowBit window) from to)) ⌝ }
+    requires low { ⌜ chunk * 1024 ≤ from + offset ⌝ }
+    requires high { ⌜ to + offset ≤ chunk * 1024 + 1024 ⌝ }
+    requires order { ⌜ from ≤ to ⌝ }
+    requires inside { ⌜ to ≤ window .len ⌝ }
+    requires small { ⌜ offset ≤ 1024 ⌝ }
+    requires count { ⌜ n ≡ length (keptFrom (windowBit window) from to) ⌝ }
+    ensures { λ _. ⌜ storing (D·ChunkDecoder .readings (now (source .exit))) (D·ChunkDecoder .allowance (now (source .exit))) (now (output .exit)) (now (scratch .exit)) ≡ serving (sparseLimit (Item·Element .bytes)) (storing (D·ChunkDecoder .readings (now (source .entry))) (D·ChunkDecoder .allowance (now (source .entry))) (now (output .entry)) (now (scratch .entry))) at (map (moved offset) (keptFrom (windowBit (window .entry)) from to)) ⌝ }
+{
+    let len = (to - from) as usize;
+    let up = from + offset - chunk * CHUNK;
+    let mut buffer = [0u64; 16];
+    let words = &mut buffer[0..len.div_ceil(64)];
+    load_words(window, from, to - from, words);
+    serve_chunk_words(source, chunk, up, words, len, n, output, at, scratch);
+}
+
+/// Serves a bitmap chunk by chunk, with the output written from `at` on.
+pub(crate) fn serve_bitmap<D: ChunkDecoder>(
+    source: &mut D,
+    offset: u64,
+    window: Window<'_>,
+    output: &mut [D::Item],
+    at: usize,
+    scratch: &mut [D::Item],
+)
+    requires small { ⌜ offset ≤ 1024 ⌝ }
+    requires short { ⌜ window .len ≤ 16777216 ⌝ }
+    requires granted { ⌜ declined (offered (sparseLimit (Item·Element .bytes)) (storing (D·ChunkDecoder .readings (now source)) (D·ChunkDecoder .allowance (now source)) (now output) (now scratch)) at) (map (moved offset) (windowPositions window)) ≡ None ⌝ }
+    requires room { ⌜ 1024 ≤ length (now scratch) ⌝ }
+    ensures { λ _. ⌜ storing (D·ChunkDecoder .readings (now (source .exit))) (D·ChunkDecoder .allowance (now (source .exit))) (now (output .exit)) (now (scratch .exit)) ≡ serving (sparseLimit (Item·Element .bytes)) (storing (D·ChunkDecoder .readings (now (source .entry))) (D·ChunkDecoder .allowance (now (source .entry))) (now (output .entry)) (now (scratch .entry))) at (map (moved offset) (windowPositions (window .entry))) ⌝ }
+{
+    let mut done: usize = 0;
+    for chunk in 0..(offset + window.len).div_ceil(CHUNK) {
+        let from = chunk_boundary(chunk, offset, window.len);
+        let to = chunk_boundary(chunk + 1, offset, window.len);
+        let n = window.ones_between(from, to);
+        if n == 0 {
+            continue;
+        }
+        serve_chunk_bitmap(
+            source,
+            chunk,
+            offset,
+            window,
+            from,
+            to,
+            n,
+            output,
+            at + done,
+            scratch,
+        );
+        done += n as usize;
     }
 }
