@@ -1,22 +1,26 @@
 -- The positions of a mask, word by word, and what is left of a compaction.
 use Prim.Native.Nat.{ℕ, zero, suc, _+_, _-_, _*_, _/_, _%_, _^_, _≤_, _<_}
 use mathlib.Core.Path.{_≡_, refl, sym, ap, subst, _∙_}
-use mathlib.Core.Bool.{Bool, false}
+use mathlib.Core.Bool.{Bool, true, false, _&&_}
 use mathlib.Core.List.{List, [], _∷_, _++_}
 use native.Mathlib.Omega.{arith}
 use native.Mathlib.Nat.{suc-add}
 use denote.Ref.{RefT, now}
+use lib.Dec.{ltb}
 use lib.ListN.{length, getD, set}
 use Rattle.std.specs.Iters.{counting}
 use Rattle.std.specs.shelf.Lists.{All, kept-by}
 use Rattle.std.proofs.shelf.Counted.{length-counting}
 use Rattle.std.proofs.shelf.Elements.{all-kept-by, all-weaker, kept-by-append}
 use Rattle.std.proofs.shelf.Lists.{append-nil, length-append}
-use Rattle.selection.specs.Selected.{bitOf}
+use Rattle.std.proofs.shelf.Tests.{and-right, lt-ltb, le-ltb}
+use Rattle.selection.specs.declared.windows.Window.{Window}
+use Rattle.selection.specs.Selected.{bitOf, windowBit, wordBit, wordOf}
+use Rattle.selection.proofs.Bits.{bit-from}
 use Rattle.selection.proofs.Filtered.{kept-fewer-all, kept-same}
 use Rattle.selection.proofs.Rising.{rising-all, rising-counting}
 use Rattle.kernels.specs.declared.slice.MaskBits.{MaskBits}
-use Rattle.kernels.specs.declared.slice.MaskBits.the-variants.{Words}
+use Rattle.kernels.specs.declared.slice.MaskBits.the-variants.{Words, Window as Framed}
 use Rattle.kernels.specs.Moved.{gather, splice, valueAt}
 use Rattle.kernels.specs.Masks.{Covers, Inside, Masks, maskBit, maskLen, maskPositions, selectedBy, setBits, wordCount, wordsBit}
 use Rattle.kernels.proofs.Gathered.{gather-append, length-gather, splice-first, splice-none, splice-splice, valueAt-is}
@@ -163,3 +167,23 @@ positions-fewer ws n = let h = kept-fewer-all (wordsBit ws) (counting 0 n) in le
 pub positions-same : (ws : List ℕ) (q : ℕ → Bool) (n : ℕ) → ((i : ℕ) → i < n → wordsBit ws i ≡ q i) → maskPositions ws n ≡ kept-by q (counting 0 n)
 unfolding maskPositions
 positions-same ws q n h = kept-same (wordsBit ws) q (counting 0 n) (all-weaker (λ i. (0 ≤ i) × (i < n)) (λ i. wordsBit ws i ≡ q i) (λ i l. h i (l .1)) (counting 0 n) (rising-all 0 n (counting 0 n) (rising-counting 0 n n (omega arith))))
+
+-- the bits of a window's word
+pub window-bits : (w : Window) (k j : ℕ) → j < 64 → bitOf (wordOf w k) j ≡ maskBit (Framed w) (64 * k + j)
+unfolding wordOf
+window-bits w k j l = bit-from (wordBit w k) 64 j l
+
+-- a window as a mask
+pub window-mask : (w : Window) → Masks (Framed w) (w .len)
+window-mask w = record { long = refl; enough = omega arith; close = omega arith; clear = λ i l. and-right (windowBit w i) (ltb i (w .len)) (le-ltb i (w .len) l) }
+
+pub window-selected : (w : Window) → selectedBy (Framed w) ≡ kept-by (windowBit w) (counting 0 (w .len))
+unfolding selectedBy
+window-selected w = kept-same (maskBit (Framed w)) (windowBit w) (counting 0 (w .len)) (all-weaker (λ i. (0 ≤ i) × (i < w .len)) (λ i. maskBit (Framed w) i ≡ windowBit w i) (λ i l. within i (l .1)) (counting 0 (w .len)) (rising-all 0 (w .len) (counting 0 (w .len)) (rising-counting 0 (w .len) (w .len) (omega arith))))
+  where
+    and-true : (b : Bool) → (b && true) ≡ b
+    and-true true = refl
+    and-true false = refl
+
+    within : (i : ℕ) → i < w .len → (windowBit w i && ltb i (w .len)) ≡ windowBit w i
+    within i l = ap (λ b. windowBit w i && b) (lt-ltb i (w .len) l) ∙ and-true (windowBit w i)

@@ -1,16 +1,16 @@
 -- Which positions a mask of words selects, and what a compaction leaves.
 use Prim.Native.Nat.{ℕ, zero, suc, _+_, _-_, _*_, _/_, _%_, _<_, _≤_}
 use mathlib.Core.Path.{_≡_}
-use mathlib.Core.Bool.{Bool, false, cond}
+use mathlib.Core.Bool.{Bool, false, cond, _&&_}
 use mathlib.Core.List.{List, [], _∷_, _++_}
 use denote.Ref.{now}
-use lib.Dec.{eqb}
+use lib.Dec.{eqb, ltb}
 use lib.ListN.{length, getD, replicate}
 use Rattle.std.specs.Iters.{counting}
 use Rattle.std.specs.shelf.Lists.{All, kept-by}
-use Rattle.selection.specs.Selected.{bitOf}
+use Rattle.selection.specs.Selected.{bitOf, windowBit}
 use Rattle.kernels.specs.declared.slice.MaskBits.{MaskBits}
-use Rattle.kernels.specs.declared.slice.MaskBits.the-variants.{Words}
+use Rattle.kernels.specs.declared.slice.MaskBits.the-variants.{Words, Window}
 use Rattle.kernels.specs.Moved.{gather, splice}
 
 -- the set bits among the first n of a number, ascending
@@ -48,17 +48,20 @@ unfoldable pub setBits : ℕ → ℕ → ℕ → List ℕ
 setBits zero w at = []
 setBits (suc k) w at = cond (eqb (w % 2) 1) (at ∷ setBits k (w / 2) (at + 1)) (setBits k (w / 2) (at + 1))
 
--- bit i of a mask
+-- bit i of a mask: a window has none past its length
 abbrev pub maskBit : MaskBits → ℕ → Bool
 maskBit (Words ws n) i = wordsBit (now ws) i
+maskBit (Window w) i = windowBit w i && ltb i (w .len)
 
 -- the length of a mask
 abbrev pub maskLen : MaskBits → ℕ
 maskLen (Words ws n) = n
+maskLen (Window w) = w .len
 
 -- the number of its words
 abbrev pub wordCount : MaskBits → ℕ
 wordCount (Words ws n) = length (now ws)
+wordCount (Window w) = (w .len + 63) / 64
 
 -- w has bits 64 * k and on of a mask
 abbrev pub WordAt : MaskBits → ℕ → ℕ → Type 0

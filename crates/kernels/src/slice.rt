@@ -6,11 +6,13 @@ ghost use lib.ListN.{length, take, drop};
 ghost use Rattle.std.specs.shelf.Lists.{All};
 ghost use Rattle.kernels.specs.Moved.{Within, gather, shifted, splice};
 ghost use Rattle.kernels.specs.Masks.{Inside, Masks, WordAt, compacted, selectedBy, setBits, wordCount};
+use selection::Window;
 
 /// A mask that is borrowed, read word by word: bit `j` of word `k`, lowest first, is position `64 * k + j`.
 #[derive(Clone, Copy)]
 pub enum MaskBits<'a> {
     Words { words: &'a [u64], len: usize },
+    Window(Window<'a>),
 }
 
 impl MaskBits<'_> {
@@ -20,6 +22,7 @@ impl MaskBits<'_> {
     {
         match self {
             MaskBits::Words { words, len: _ } => words.len(),
+            MaskBits::Window(window) => window.len.div_ceil(64) as usize,
         }
     }
 
@@ -30,6 +33,7 @@ impl MaskBits<'_> {
     {
         match self {
             MaskBits::Words { words, len: _ } => words[k],
+            MaskBits::Window(window) => window.word(k as u64),
         }
     }
 }
