@@ -8,6 +8,7 @@ ghost use Rattle.chunked.specs.Pushes.{answer, next, stateOf, termsOf};
 use super::serve::serve_bitmap;
 use super::serve::serve_indices;
 use super::serve::serve_runs;
+use super::settle::Push;
 use super::settle::Receipt;
 use super::settle::Terms;
 use super::settle::settle_bitmap;
@@ -16,6 +17,7 @@ use super::settle::settle_runs;
 use kernels::sparse_limit;
 use selection::Refusal;
 use selection::Run;
+use selection::Selection;
 use selection::Window;
 use source::ChunkDecoder;
 
@@ -150,5 +152,25 @@ impl<D: ChunkDecoder> ChunkedFilter<D> {
         self.written = self.written.wrapping_add(receipt.count);
         self.fees = self.fees.wrapping_add(receipt.fee);
         Ok(receipt)
+    }
+
+    /// Makes a push in whichever form it comes.
+    pub fn push(
+        &mut self,
+        push: Push<'_>,
+        output: &mut [D::Item],
+        scratch: &mut [D::Item],
+    ) -> Result<Receipt, Refusal>
+        ensures value { λ r. ⌜ r ≡ answer (termsOf (sparseLimit (Item·Element .bytes)) (stateOf (D·ChunkDecoder .readings) (D·ChunkDecoder .allowance) (now (self .entry)) (now (output .entry)) (now (scratch .entry)))) (push .entry) ⌝ }
+        ensures after { λ _. ⌜ stateOf (D·ChunkDecoder .readings) (D·ChunkDecoder .allowance) (now (self .exit)) (now (output .exit)) (now (scratch .exit)) ≡ next (sparseLimit (Item·Element .bytes)) (stateOf (D·ChunkDecoder .readings) (D·ChunkDecoder .allowance) (now (self .entry)) (now (output .entry)) (now (scratch .entry))) (push .entry) ⌝ }
+    {
+        let offset = push.offset;
+        match push.selection {
+            Selection::Bitmap(window) => self.push_bitmap(offset, window, output, scratch),
+            Selection::Indices { indices, len } => {
+                self.push_mask_indices(offset, indices, len, output, scratch)
+            }
+            Selection::Runs { runs, len } => self.push_slices(offset, runs, len, output, scratch),
+        }
     }
 }

@@ -1,0 +1,77 @@
+//! Whole runs: a list of pushes on a new filter, and what holds of every such run.
+ghost use mathlib.Core.Path.{_≡_};
+ghost use lib.ListN.{length, take};
+ghost use Rattle.std.specs.declared.option.Option.the-variants.{None};
+ghost use Rattle.std.specs.shelf.Lists.{Each};
+ghost use Rattle.selection.specs.Refusals.{answered, settled};
+ghost use Rattle.kernels.specs.Moved.{sparseLimit, splice};
+ghost use Rattle.chunked.specs.Pushes.{stateOf};
+ghost use Rattle.chunked.specs.Runs.{after, answers as answersTo, endedIn, newState, notesFault};
+ghost use Rattle.chunked.specs.Laws.{Agree, Alike, Balanced, SamePick, formedOnes};
+use super::filters::ChunkedFilter;
+use super::settle::Push;
+use super::settle::Receipt;
+use selection::Refusal;
+use source::ChunkDecoder;
+
+/// How a run ended: the source, the totals, the allowance at first, and whether it was made at all.
+#[derive(Drop)]
+pub struct Ended<D> {
+    pub source: D,
+    pub first: u64,
+    pub written: u64,
+    pub fees: u64,
+    pub made: Result<(), Refusal>,
+}
+
+/// Makes each push in turn, and notes what it answers.
+fn push_all<D: ChunkDecoder>(
+    filter: &mut ChunkedFilter<D>,
+    pushes: &[Push<'_>],
+    output: &mut [D::Item],
+    scratch: &mut [D::Item],
+    notes: &mut [Result<Receipt, Refusal>],
+)
+    requires { ⌜ length (now notes) ≡ length (now pushes) ⌝ }
+    ensures noted { λ _. ⌜ now (notes .exit) ≡ answersTo (sparseLimit (Item·Element .bytes)) (stateOf (D·ChunkDecoder .readings) (D·ChunkDecoder .allowance) (now (filter .entry)) (now (output .entry)) (now (scratch .entry))) (now (pushes .entry)) ⌝ }
+    ensures last { λ _. ⌜ stateOf (D·ChunkDecoder .readings) (D·ChunkDecoder .allowance) (now (filter .exit)) (now (output .exit)) (now (scratch .exit)) ≡ after (sparseLimit (Item·Element .bytes)) (stateOf (D·ChunkDecoder .readings) (D·ChunkDecoder .allowance) (now (filter .entry)) (now (output .entry)) (now (scratch .entry))) (now (pushes .entry)) ⌝ }
+{
+    for (k, push) in pushes.iter().enumerate() {
+        notes[k] = filter.push(*push, output, scratch);
+    }
+}
+
+/// Makes a filter over a source, makes each push in turn, notes every answer, and hands the source
+/// back. With too few notes nothing is done.
+pub fn run_pushes<D: ChunkDecoder>(
+    source: D,
+    pushes: &[Push<'_>],
+    output: &mut [D::Item],
+    scratch: &mut [D::Item],
+    notes: &mut [Result<Receipt, Refusal>],
+) -> Ended<D>
+    ensures made { λ r. ⌜ r .made ≡ answered (notesFault (length (now (notes .entry))) (length (now (pushes .entry)))) tt ⌝ }
+    ensures first { λ r. ⌜ r .first ≡ D·ChunkDecoder .allowance source ⌝ }
+    ensures noted { λ _. ⌜ now (notes .exit) ≡ settled (notesFault (length (now (notes .entry))) (length (now (pushes .entry)))) (now (notes .entry)) (splice (now (notes .entry)) 0 (answersTo (sparseLimit (Item·Element .bytes)) (newState (D·ChunkDecoder .readings source) (D·ChunkDecoder .allowance source) (now (output .entry)) (now (scratch .entry))) (now (pushes .entry)))) ⌝ }
+    ensures ended { λ r. ⌜ endedIn (D·ChunkDecoder .readings) (D·ChunkDecoder .allowance) r (now (output .exit)) (now (scratch .exit)) ≡ settled (notesFault (length (now (notes .entry))) (length (now (pushes .entry)))) (newState (D·ChunkDecoder .readings source) (D·ChunkDecoder .allowance source) (now (output .entry)) (now (scratch .entry))) (after (sparseLimit (Item·Element .bytes)) (newState (D·ChunkDecoder .readings source) (D·ChunkDecoder .allowance source) (now (output .entry)) (now (scratch .entry))) (now (pushes .entry))) ⌝ }
+    ensures balanced { λ r. ⌜ (notesFault (length (now (notes .entry))) (length (now (pushes .entry))) ≡ None → Balanced (sparseLimit (Item·Element .bytes)) (newState (D·ChunkDecoder .readings source) (D·ChunkDecoder .allowance source) (now (output .entry)) (now (scratch .entry))) (endedIn (D·ChunkDecoder .readings) (D·ChunkDecoder .allowance) r (now (output .exit)) (now (scratch .exit))) (take (length (now (pushes .entry))) (now (notes .exit)))) ⌝ }
+{
+    let first = source.left();
+    let mut filter = ChunkedFilter::new(source);
+    let n = pushes.len();
+    let made = if notes.len() < n {
+        Err(Refusal::Output)
+    } else {
+        push_all(&mut filter, pushes, output, scratch, &mut notes[0..n]);
+        Ok(())
+    };
+    let written = filter.written();
+    let fees = filter.fees();
+    Ended {
+        source: filter.finish(),
+        first,
+        written,
+        fees,
+        made,
+    }
+}
