@@ -22,7 +22,7 @@ use Rattle.chunked.specs.declared.settle.Push.{Push}
 use Rattle.chunked.specs.declared.filters.ChunkedFilter.{ChunkedFilter}
 use Rattle.chunked.specs.Pushes.{Answer, State, answer, next, stateOf, termsOf}
 use Rattle.chunked.specs.Runs.{after, answers, notesFault}
-use Rattle.chunked.specs.Laws.{Balance, Balanced, Fresh}
+use Rattle.chunked.specs.Laws.{Agree, Balanced, Ran}
 
 -- one push after others
 answers-push : {T : Type 0} (L : ℕ) (s : State T) (ps : List Push) (p : Push) → answers L s (ps ++ (p ∷ [])) ≡ answers L s ps ++ (answer (termsOf L (after L s ps)) p ∷ [])
@@ -67,12 +67,6 @@ answers-long : {T : Type 0} (L : ℕ) (s : State T) (ps : List Push) → length 
 answers-long L s [] = refl
 answers-long L s (p ∷ ps) = ap suc (answers-long L (next L s p) ps)
 
--- a run of pushes from s to t, with its notes before and after
-pub record Ran {T : Type 0} (L : ℕ) (ps : List Push) (s t : State T) (before now′ : List Answer) (made : Result Unit Refusal) : Type 0 where
-  pub told : made ≡ answered (notesFault (length before) (length ps)) tt
-  pub noted : now′ ≡ settled (notesFault (length before) (length ps)) before (splice before 0 (answers L s ps))
-  pub ended : t ≡ settled (notesFault (length before) (length ps)) s (after L s ps)
-
 module _ {T : Type 0} (L : ℕ) (ps : List Push) (s : State T) (before : List Answer) where
   pub ran-not : (t : State T) (noted : List Answer) (made : Result Unit Refusal) → length before < length ps → t ≡ s → noted ≡ before → made ≡ Err Output → Ran L ps s t before noted made
   ran-not t noted made l there kept told =
@@ -93,12 +87,22 @@ module _ {T : Type 0} (L : ℕ) (ps : List Push) (s : State T) (before : List An
         ended = there ∙ sym (ap (λ o. settled o s (after L s ps)) b);
       }
 
-  pub ran-balanced : (t : State T) (noted : List Answer) (made : Result Unit Refusal) → Ran L ps s t before noted made → Balanced L s (after L s ps) (answers L s ps) → notesFault (length before) (length ps) ≡ None → Balanced L s t (take (length ps) noted)
-  ran-balanced t noted made r h none =
+  -- with notes enough, the whole list is carried out and noted
+  pub ran-all : (t : State T) (noted : List Answer) (made : Result Unit Refusal) → Ran L ps s t before noted made → notesFault (length before) (length ps) ≡ None → (after L s ps ≡ t) × (answers L s ps ≡ take (length ps) noted)
+  ran-all t noted made r none =
       let there = r .ended ∙ ap (λ o. settled o s (after L s ps)) none in
       let told = r .noted ∙ ap (λ o. settled o before (splice before 0 (answers L s ps))) none in
       let first = ap₂ (λ (n : ℕ) (as′ : List Answer). take n as′) (let e : length ps ≡ 0 + length ps = omega arith in e) told ∙ take-splice before 0 (length ps) (answers L s ps) (omega arith) (answers-long L s ps) in
-      subst (λ u. Balanced L s u (take (length ps) noted)) (sym there) (subst (Balanced L s (after L s ps)) (sym first) h)
+      (sym there, sym first)
+
+  pub ran-balanced : (t : State T) (noted : List Answer) (made : Result Unit Refusal) → Ran L ps s t before noted made → Balanced L s (after L s ps) (answers L s ps) → notesFault (length before) (length ps) ≡ None → Balanced L s t (take (length ps) noted)
+  ran-balanced t noted made r h none =
+      let all = ran-all t noted made r none in
+      subst (λ u. Balanced L s u (take (length ps) noted)) (all .0) (subst (Balanced L s (after L s ps)) (all .1) h)
+
+pub agree-by : {T : Type 0} {s s′ t t′ : State T} {ps qs : List Push} {as′ as″ bs bs′ : List Answer} → s ≡ s′ → t ≡ t′ → as′ ≡ as″ → bs ≡ bs′ → Agree s t ps qs as′ bs → Agree s′ t′ ps qs as″ bs′
+agree-by {s′ = s′} {t = t} {t′ = t′} {ps = ps} {qs = qs} {as′ = as′} {as″ = as″} {bs = bs} e f a b h =
+    subst (λ y. Agree s′ t′ ps qs as″ y) b (subst (λ x. Agree s′ t′ ps qs x bs) a (subst (λ v. Agree s′ v ps qs as′ bs) f (subst (λ u. Agree u t ps qs as′ bs) e h)))
 
 -- the same filter and the same buffers are the same state
 pub same-state : {D T : Type 0} (readings : D → List T) (allowance : D → ℕ) {f f′ : ChunkedFilter D} {out out′ aside aside′ : List T} → f ≡ f′ → out ≡ out′ → aside ≡ aside′ → stateOf readings allowance f out aside ≡ stateOf readings allowance f′ out′ aside′

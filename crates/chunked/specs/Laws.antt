@@ -1,14 +1,19 @@
 -- What holds of all pushes to a new filter.
+use Prim.{Unit, tt}
 use Prim.Native.Nat.{ℕ, _+_, _*_, _^_, _<_, _≤_}
 use mathlib.Core.Path.{_≡_}
 use mathlib.Core.List.{List}
 use lib.ListN.{length, take}
+use Rattle.std.specs.declared.result.Result.{Result}
 use Rattle.std.specs.shelf.Lists.{Each, kept-by}
+use Rattle.selection.specs.declared.refusals.Refusal.{Refusal}
+use Rattle.selection.specs.Refusals.{answered, settled}
 use Rattle.selection.specs.Selected.{positions}
+use Rattle.kernels.specs.Moved.{splice}
 use Rattle.source.specs.Fetched.{Whole}
 use Rattle.chunked.specs.declared.settle.Push.{Push}
 use Rattle.chunked.specs.Pushes.{Answer, State}
-use Rattle.chunked.specs.Runs.{after, answers, feesPaid, heard, valuesWritten, wellFormed}
+use Rattle.chunked.specs.Runs.{after, answers, feesPaid, heard, notesFault, valuesWritten, wellFormed}
 
 -- a new filter, with its source, its output and its scratch
 pub record Fresh {T : Type 0} (s : State T) : Type 0 where
@@ -17,6 +22,12 @@ pub record Fresh {T : Type 0} (s : State T) : Type 0 where
   pub room : length (s .output) < 2 ^ 64
   pub none-written : s .written ≡ 0
   pub none-paid : s .fees ≡ 0
+
+-- a list of pushes took s to t, and its answers are noted: all of it, or nothing with too few notes
+pub record Ran {T : Type 0} (L : ℕ) (ps : List Push) (s t : State T) (before now′ : List Answer) (made : Result Unit Refusal) : Type 0 where
+  pub told : made ≡ answered (notesFault (length before) (length ps)) tt
+  pub noted : now′ ≡ settled (notesFault (length before) (length ps)) before (splice before 0 (answers L s ps))
+  pub ended : t ≡ settled (notesFault (length before) (length ps)) s (after L s ps)
 
 -- from s to t by pushes with such answers, the allowance goes into fees alone, and the fees stay near the values written
 pub record Balanced {T : Type 0} (L : ℕ) (s t : State T) (as′ : List Answer) : Type 0 where

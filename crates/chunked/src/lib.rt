@@ -6,6 +6,7 @@ mod settle;
 
 pub use filters::ChunkedFilter;
 pub use runs::Ended;
+pub use runs::run_both;
 pub use runs::run_pushes;
 pub use settle::Push;
 pub use settle::Receipt;

@@ -7,10 +7,11 @@ ghost use Rattle.selection.specs.Refusals.{answered, settled};
 ghost use Rattle.kernels.specs.Moved.{sparseLimit, splice};
 ghost use Rattle.chunked.specs.Pushes.{stateOf};
 ghost use Rattle.chunked.specs.Runs.{after, answers as answersTo, endedIn, newState, notesFault};
-ghost use Rattle.chunked.specs.Laws.{Agree, Alike, Balanced, SamePick, formedOnes};
+ghost use Rattle.chunked.specs.Laws.{Agree, Alike, Balanced, Fresh, Ran, SamePick, formedOnes};
 use super::filters::ChunkedFilter;
 use super::settle::Push;
 use super::settle::Receipt;
+use kernels::Element;
 use selection::Refusal;
 use source::ChunkDecoder;
 
@@ -50,10 +51,9 @@ pub fn run_pushes<D: ChunkDecoder>(
     scratch: &mut [D::Item],
     notes: &mut [Result<Receipt, Refusal>],
 ) -> Ended<D>
-    ensures made { λ r. ⌜ r .made ≡ answered (notesFault (length (now (notes .entry))) (length (now (pushes .entry)))) tt ⌝ }
+    ensures ran { λ r. ⌜ Ran (sparseLimit (Item·Element .bytes)) (now (pushes .entry)) (newState (D·ChunkDecoder .readings source) (D·ChunkDecoder .allowance source) (now (output .entry)) (now (scratch .entry))) (endedIn (D·ChunkDecoder .readings) (D·ChunkDecoder .allowance) r (now (output .exit)) (now (scratch .exit))) (now (notes .entry)) (now (notes .exit)) (r .made) ⌝ }
     ensures first { λ r. ⌜ r .first ≡ D·ChunkDecoder .allowance source ⌝ }
-    ensures noted { λ _. ⌜ now (notes .exit) ≡ settled (notesFault (length (now (notes .entry))) (length (now (pushes .entry)))) (now (notes .entry)) (splice (now (notes .entry)) 0 (answersTo (sparseLimit (Item·Element .bytes)) (newState (D·ChunkDecoder .readings source) (D·ChunkDecoder .allowance source) (now (output .entry)) (now (scratch .entry))) (now (pushes .entry)))) ⌝ }
-    ensures ended { λ r. ⌜ endedIn (D·ChunkDecoder .readings) (D·ChunkDecoder .allowance) r (now (output .exit)) (now (scratch .exit)) ≡ settled (notesFault (length (now (notes .entry))) (length (now (pushes .entry)))) (newState (D·ChunkDecoder .readings source) (D·ChunkDecoder .allowance source) (now (output .entry)) (now (scratch .entry))) (after (sparseLimit (Item·Element .bytes)) (newState (D·ChunkDecoder .readings source) (D·ChunkDecoder .allowance source) (now (output .entry)) (now (scratch .entry))) (now (pushes .entry))) ⌝ }
+    ensures fresh { λ _. ⌜ Fresh (newState (D·ChunkDecoder .readings source) (D·ChunkDecoder .allowance source) (now (output .entry)) (now (scratch .entry))) ⌝ }
     ensures balanced { λ r. ⌜ (notesFault (length (now (notes .entry))) (length (now (pushes .entry))) ≡ None → Balanced (sparseLimit (Item·Element .bytes)) (newState (D·ChunkDecoder .readings source) (D·ChunkDecoder .allowance source) (now (output .entry)) (now (scratch .entry))) (endedIn (D·ChunkDecoder .readings) (D·ChunkDecoder .allowance) r (now (output .exit)) (now (scratch .exit))) (take (length (now (pushes .entry))) (now (notes .exit)))) ⌝ }
 {
     let first = source.left();
@@ -74,4 +74,28 @@ pub fn run_pushes<D: ChunkDecoder>(
         fees,
         made,
     }
+}
+
+/// Makes two lists of pushes, each on a new filter over a source of its own. Lists that pick the
+/// same positions of the same readings are answered alike, whatever forms they have.
+pub fn run_both<T: Element, D: ChunkDecoder<Item = T>, E: ChunkDecoder<Item = T>>(
+    source: D,
+    pushes: &[Push<'_>],
+    output: &mut [T],
+    scratch: &mut [T],
+    notes: &mut [Result<Receipt, Refusal>],
+    source2: E,
+    pushes2: &[Push<'_>],
+    output2: &mut [T],
+    scratch2: &mut [T],
+    notes2: &mut [Result<Receipt, Refusal>],
+) -> (Ended<D>, Ended<E>)
+    ensures one { λ r. ⌜ Ran (sparseLimit (T·Element .bytes)) (now (pushes .entry)) (newState (D·ChunkDecoder .readings source) (D·ChunkDecoder .allowance source) (now (output .entry)) (now (scratch .entry))) (endedIn (D·ChunkDecoder .readings) (D·ChunkDecoder .allowance) (r .0) (now (output .exit)) (now (scratch .exit))) (now (notes .entry)) (now (notes .exit)) (r .0 .made) ⌝ }
+    ensures other { λ r. ⌜ Ran (sparseLimit (T·Element .bytes)) (now (pushes2 .entry)) (newState (E·ChunkDecoder .readings source2) (E·ChunkDecoder .allowance source2) (now (output2 .entry)) (now (scratch2 .entry))) (endedIn (E·ChunkDecoder .readings) (E·ChunkDecoder .allowance) (r .1) (now (output2 .exit)) (now (scratch2 .exit))) (now (notes2 .entry)) (now (notes2 .exit)) (r .1 .made) ⌝ }
+    ensures firsts { λ r. ⌜ (r .0 .first ≡ D·ChunkDecoder .allowance source) × (r .1 .first ≡ E·ChunkDecoder .allowance source2) ⌝ }
+    ensures agreed { λ r. ⌜ (notesFault (length (now (notes .entry))) (length (now (pushes .entry))) ≡ None → notesFault (length (now (notes2 .entry))) (length (now (pushes2 .entry))) ≡ None → Alike (newState (D·ChunkDecoder .readings source) (D·ChunkDecoder .allowance source) (now (output .entry)) (now (scratch .entry))) (newState (E·ChunkDecoder .readings source2) (E·ChunkDecoder .allowance source2) (now (output2 .entry)) (now (scratch2 .entry))) → Each SamePick (formedOnes (newState (D·ChunkDecoder .readings source) (D·ChunkDecoder .allowance source) (now (output .entry)) (now (scratch .entry))) (now (pushes .entry))) (formedOnes (newState (E·ChunkDecoder .readings source2) (E·ChunkDecoder .allowance source2) (now (output2 .entry)) (now (scratch2 .entry))) (now (pushes2 .entry))) → Agree (endedIn (D·ChunkDecoder .readings) (D·ChunkDecoder .allowance) (r .0) (now (output .exit)) (now (scratch .exit))) (endedIn (E·ChunkDecoder .readings) (E·ChunkDecoder .allowance) (r .1) (now (output2 .exit)) (now (scratch2 .exit))) (now (pushes .entry)) (now (pushes2 .entry)) (take (length (now (pushes .entry))) (now (notes .exit))) (take (length (now (pushes2 .entry))) (now (notes2 .exit)))) ⌝ }
+{
+    let one = run_pushes(source, pushes, output, scratch, notes);
+    let other = run_pushes(source2, pushes2, output2, scratch2, notes2);
+    (one, other)
 }

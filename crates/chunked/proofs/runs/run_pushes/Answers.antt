@@ -9,10 +9,10 @@ use Rattle.selection.specs.Refusals.{settled}
 use Rattle.kernels.specs.Moved.{sparseLimit}
 use Rattle.chunked.specs.Pushes.{State, stateOf}
 use Rattle.chunked.specs.Runs.{after, answers, endedIn, newState}
-use Rattle.chunked.specs.Laws.{Fresh}
+use Rattle.chunked.specs.Laws.{Fresh, Ran}
 use Rattle.chunked.proofs.Balance.{balance}
 use Rattle.chunked.proofs.Fees.{limit-small}
-use Rattle.chunked.proofs.Noted.{Ran, ran, ran-not, ran-balanced, same-state}
+use Rattle.chunked.proofs.Noted.{ran, ran-not, ran-balanced, same-state}
 use Rattle.chunked.proofs.runs.run_pushes.Needs.{then-notes-n, else-notes-n}
 use Rattle.chunked.proofs.runs.run_pushes.Needs as need
 
@@ -39,9 +39,8 @@ returns g c =
     ] in
     let fresh : Fresh s = record { whole = g .D·ChunkDecoder .whole (c .args .source); small = subst (λ n. n < 2 ^ 64) (c .left-first .ensures) (c .left-first .ok); room = search needs; none-written = refl; none-paid = refl } in
     record {
-      made = r .told;
+      ran = r;
       first = c .left-first .ensures;
-      noted = r .noted;
-      ended = r .ended;
+      fresh = fresh;
       balanced = ran-balanced L ps s before t (at .notes) (at .made) r (balance L s ps (limit-small (g .Item·Element .bytes)) fresh);
     }
