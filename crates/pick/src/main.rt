@@ -1,12 +1,22 @@
-//! Picks the readings around a gap in a door log, and shows what a push refuses.
+//! Picks the readings around a gap in a door log, shows what a push refuses, and makes one pick in
+//! three forms over two kinds of source.
 //!
 //! The log has a reading for each second: the door signal of a lift. A cable was pulled for a
 //! while, so the signal drops out, and comes back when the cable is in place again.
 use chunked::ChunkedFilter;
+use chunked::Push;
 use chunked::Receipt;
+use chunked::run_both;
 use kernels::Event;
 use kernels::EventElement;
+use kernels::U64Element;
 use selection::Refusal;
+use selection::Run;
+use selection::Selection;
+use selection::Window;
+use source::ChunkDecoder;
+use source::Ramp;
+use source::RampDecoder;
 use source::Table;
 use source::TableDecoder;
 use std::alloc::AllocError;
@@ -175,6 +185,207 @@ fn show_refusals(
     show_answer(rt, "the allowance is spent", answer, filter.left())
 }
 
+/// What is picked in three forms: ten seconds across the edge of a chunk, and two hundred around
+/// the gap.
+const STRETCHES: [Run; 2] = [
+    Run {
+        start: 1020,
+        end: 1030,
+    },
+    Run {
+        start: 1450,
+        end: 1650,
+    },
+];
+
+/// Where the bitmap starts in its first byte.
+const FIRST_BIT: u64 = 3;
+
+/// What both sources may still give.
+const ALLOWANCE: u64 = 4000;
+
+fn is_picked(second: u64) -> bool {
+    let mut picked = false;
+    for run in &STRETCHES {
+        picked = picked || (run.start <= second && second < run.end);
+    }
+    picked
+}
+
+/// The picked seconds, as an index list.
+fn picked_seconds(heap: Global) -> Result<Vec<u64>, AllocError> {
+    let mut seconds = Vec::new(heap);
+    for second in 0..SECONDS {
+        if is_picked(second) {
+            seconds.push(second)?;
+        }
+    }
+    Ok(seconds)
+}
+
+/// Eight bits of the bitmap, from one of them on.
+fn picked_byte(bit: u64) -> u8 {
+    let mut byte = 0;
+    for j in 0..8u8 {
+        let second = bit.wrapping_add(u64::from(j)).wrapping_sub(FIRST_BIT);
+        if is_picked(second) {
+            byte |= 1u8 << j;
+        }
+    }
+    byte
+}
+
+/// The picked seconds, as a bitmap.
+fn picked_bytes(heap: Global) -> Result<Vec<u8>, AllocError> {
+    let mut bytes = Vec::new(heap);
+    for k in 0..385u64 {
+        bytes.push(picked_byte(8 * k))?;
+    }
+    Ok(bytes)
+}
+
+/// The times of the log, as a list.
+fn times(heap: Global) -> Result<Vec<u64>, AllocError> {
+    let mut list = Vec::new(heap);
+    for second in 0..SECONDS {
+        list.push(second)?;
+    }
+    Ok(list)
+}
+
+fn show_notes(
+    rt: &LibcRuntime,
+    what: &str,
+    notes: &[Result<Receipt, Refusal>],
+) -> Result<(), AnyError> {
+    for note in notes {
+        match *note {
+            Ok(receipt) => {
+                let count = receipt.count;
+                let fee = receipt.fee;
+                println!(rt, "{what}: ok, {count} readings for {fee}")?;
+            }
+            Err(refusal) => {
+                let number = refusal.number();
+                let place = refusal.place();
+                println!(rt, "{what}: no, number {number}, place {place}")?;
+            }
+        }
+    }
+    Ok(())
+}
+
+fn by_bitmap(bytes: &[u8]) -> Push<'_> {
+    Push {
+        offset: 0,
+        selection: Selection::Bitmap(Window {
+            bytes,
+            start: FIRST_BIT,
+            len: SECONDS,
+        }),
+    }
+}
+
+fn by_indices(indices: &[u64]) -> Push<'_> {
+    Push {
+        offset: 0,
+        selection: Selection::Indices {
+            indices,
+            len: SECONDS,
+        },
+    }
+}
+
+fn by_runs(runs: &[Run], len: u64) -> Push<'_> {
+    Push {
+        offset: 0,
+        selection: Selection::Runs { runs, len },
+    }
+}
+
+/// Makes some pushes over a table and some over a ramp, and says whether they agree.
+fn show_both(
+    rt: &LibcRuntime,
+    list: &[u64],
+    pushes: &[Push<'_>],
+    others: &[Push<'_>],
+) -> Result<(), AnyError> {
+    let heap = rt.alloc();
+    let mut output = vec![in heap; 0u64; 1024]?;
+    let mut scratch = vec![in heap; 0u64; 1024]?;
+    let mut output2 = vec![in heap; 0u64; 1024]?;
+    let mut scratch2 = vec![in heap; 0u64; 1024]?;
+    let mut notes = [Err(Refusal::Output); 4];
+    let mut notes2 = [Err(Refusal::Output); 3];
+    let Ok(table) = Table::new(list, ALLOWANCE) else {
+        return Err("the times are not in whole chunks".into());
+    };
+    let Ok(ramp) = Ramp::new(0, 1, 3, ALLOWANCE) else {
+        return Err("too many chunks".into());
+    };
+    let (one, other) = run_both(
+        table,
+        pushes,
+        &mut output,
+        &mut scratch,
+        &mut notes,
+        ramp,
+        others,
+        &mut output2,
+        &mut scratch2,
+        &mut notes2,
+    );
+    show_notes(rt, "  table", &notes)?;
+    show_notes(rt, "  ramp", &notes2)?;
+    let left = one.source.left();
+    let left2 = other.source.left();
+    let same = if left == left2 && same_values(&output, &output2) {
+        "they agree"
+    } else {
+        "they differ"
+    };
+    println!(rt, "  {left} and {left2} left: {same}")?;
+    Ok(())
+}
+
+fn same_values(one: &[u64], other: &[u64]) -> bool {
+    let mut same = one.len() == other.len();
+    for (a, b) in one.iter().zip(other) {
+        same = same && *a == *b;
+    }
+    same
+}
+
+/// The same pick in three forms, over a list of times and over a count of seconds. One push over
+/// the list is not well formed.
+fn show_pushes<'a>(
+    rt: &LibcRuntime,
+    list: &[u64],
+    bytes: &'a [u8],
+    indices: &'a [u64],
+    stretches: &'a [Run],
+) -> Result<(), AnyError> {
+    let bitmap = by_bitmap(bytes);
+    let seconds = by_indices(indices);
+    let runs = by_runs(stretches, SECONDS);
+    let short = by_runs(stretches, 1500);
+    println!(rt, "one pick in three forms, over two kinds of source")?;
+    show_both(
+        rt,
+        list,
+        &[bitmap, short, seconds, runs],
+        &[runs, bitmap, seconds],
+    )
+}
+
+fn show_forms(rt: &LibcRuntime) -> Result<(), AnyError> {
+    let heap = rt.alloc();
+    let list = times(heap)?;
+    let indices = picked_seconds(heap)?;
+    let bytes = picked_bytes(heap)?;
+    show_pushes(rt, &list, &bytes, &indices, &STRETCHES)
+}
+
 fn run(rt: &LibcRuntime) -> Result<(), AnyError> {
     let heap = rt.alloc();
     let log = door_log(heap)?;
@@ -207,7 +418,7 @@ fn run(rt: &LibcRuntime) -> Result<(), AnyError> {
     let written = filter.written();
     let fees = filter.fees();
     println!(rt, "in all: {written} readings for {fees}")?;
-    Ok(())
+    show_forms(rt)
 }
 
 fn main(rt: LibcRuntime) -> Result<(), AnyError> {
