@@ -5,11 +5,14 @@ ghost use lib.ListN.{length};
 ghost use Rattle.selection.specs.Selected.{bitsFrom};
 
 /// What `n` bits make, at most 64, from bit `shift`, below 8, of byte `at` on. A bit past the
-/// bytes is 0. Unless `n` is 0, no byte is read that has none of the bits.
+/// bytes is 0, and no byte is read that has none of the bits.
 pub fn bits_at(bytes: &[u8], at: u64, shift: u64, n: u64) -> u64
     requires { ⌜ shift < 8 ⌝ ∗ ⌜ n ≤ 64 ⌝ }
     ensures { λ r. ⌜ r ≡ bitsFrom (now (bytes .entry)) (8 * at + shift) n ⌝ }
 {
+    if n == 0 {
+        return 0;
+    }
     let there = (bytes.len() as u64).saturating_sub(at);
     let size = (shift + n).div_ceil(8).min(there);
     let low = low_word(bytes, at, size);

@@ -1,11 +1,16 @@
 use Prim.Native.Nat.{_+_, _-_, _*_, _^_, _%_, _≤_}
-use mathlib.Core.Path.{ap, _∙_}
+use mathlib.Core.Path.{ap, sym, _∙_}
 use mathlib.Core.Logic.{_⊎_, inl, inr}
 use native.Mathlib.Omega.{arith}
 use lib.ListN.{length}
 use Rattle.std.proofs.shelf.Tests.{cases-lt}
+use Rattle.selection.specs.Selected.{bitsFrom}
 use Rattle.selection.proofs.Fields.{field-num, ninth-lt}
 use Rattle.selection.proofs.loads.bits_at.Needs as need
+
+pub returns-then-n-eq0 : need.returns-then-n-eq0
+unfolding bitsFrom
+returns-then-n-eq0 c = sym (ap (bitsFrom (c .args .bytes .now) (8 * c .args .at + c .args .shift)) (c .if-n-eq0 .taken))
 
 pub joined-from-requires : need.joined-from-requires
 joined-from-requires c κs =
