@@ -66,7 +66,8 @@ pub impl<'a> ChunkDecoder for Packed<'a> as PackedDecoder {
     }
 
     fn left(&self) -> u64 {
-        self.left
+        let left = self.left;
+        left
     }
 
     fn decode_chunk(&mut self, chunk: u64, output: &mut [u32]) -> Result<(), Refusal> {

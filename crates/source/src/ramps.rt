@@ -84,11 +84,13 @@ pub impl ChunkDecoder for Ramp as RampDecoder {
     ghost whole = { λ t. ramp-whole (t .start) (t .step) (t .chunks) (t .few) };
 
     fn chunks(&self) -> u64 {
-        self.chunks
+        let chunks = self.chunks;
+        chunks
     }
 
     fn left(&self) -> u64 {
-        self.left
+        let left = self.left;
+        left
     }
 
     fn decode_chunk(&mut self, chunk: u64, output: &mut [u64]) -> Result<(), Refusal> {

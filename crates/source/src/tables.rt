@@ -52,7 +52,8 @@ pub impl<'a, T: Element> ChunkDecoder for Table<'a, T> as TableDecoder {
     }
 
     fn left(&self) -> u64 {
-        self.left
+        let left = self.left;
+        left
     }
 
     fn decode_chunk(&mut self, chunk: u64, output: &mut [T]) -> Result<(), Refusal> {
