@@ -12,7 +12,7 @@ import re
 import sys
 
 WORD = re.compile(r"(?<![\w'\-◌.«])([A-Za-z_][\w'\-]*)(?![\w'\-◌])")
-HEAD = re.compile(r"^(?:(?:pub|abbrev|unfoldable)\s+)*([A-Za-z_][\w'\-]*) :")
+HEAD = re.compile(r"^ *(?:(?:pub|abbrev|unfoldable)\s+)*([A-Za-z_][\w'\-]*) :")
 # names that would fall together with another name
 OTHER = {
     "bit-or": "bit_of_or",
@@ -20,6 +20,10 @@ OTHER = {
     "chunkPrice": "price_of_chunk",
     "count-indices": "count_of_indices",
     "fromBits": "number_of_bits",
+    "indices-fault": "indices_fault_is",
+    "last-of": "last_of_list",
+    "runs-fault": "runs_fault_is",
+    "word-bit": "word_bit_is",
     "keptFrom": "kept_between_places",
     "pext-from": "pext_from_bits",
     "sparseLimit": "limit_at_width",
@@ -45,6 +49,7 @@ def snake(name):
 
 def main():
     texts = {p: open(p, encoding="utf-8").read() for p in files()}
+    everything = "\n".join(texts.values())
     own = {}
     for p, t in texts.items():
         if not p.endswith(".antt"):
@@ -52,7 +57,8 @@ def main():
         for line in t.split("\n"):
             m = HEAD.match(line)
             if m and not re.search(r": (?:goal|given)\.", line) and not m[1][0].isupper():
-                if snake(m[1]) != m[1]:
+                # what stands behind a dot somewhere is a field
+                if snake(m[1]) != m[1] and not (line.startswith(" ") and "." + m[1] in everything):
                     own[m[1]] = snake(m[1])
     words = {}
     for p, t in texts.items():

@@ -10,9 +10,9 @@ use Rattle.settle.specs.Pushes.{answer, declined, misformed, places, receipt, re
 use Rattle.chunked.specs.Served.{State, Store, more_written, next, served, serving, store_of, terms_of}
 
 module _ {T : Type 0} (L : ℕ) (s : State T) (p : Push) where
-  pub refused-next : (e : Refusal) → answer (terms_of L s) p ≡ Err e → s ≡ next L s p
+  pub refused_next : (e : Refusal) → answer (terms_of L s) p ≡ Err e → s ≡ next L s p
   unfolding answer next
-  refused-next e h = sym (ap (λ o. settled o s (served L s (places p))) (answered_err (refusal (terms_of L s) p) (receipt (terms_of L s) (places p)) e h))
+  refused_next e h = sym (ap (λ o. settled o s (served L s (places p))) (answered_err (refusal (terms_of L s) p) (receipt (terms_of L s) (places p)) e h))
 
   pub record Accepted (r : Receipt) : Type 0 where
     pub formed : selection_fault p.selection ≡ None

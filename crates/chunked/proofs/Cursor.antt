@@ -12,8 +12,8 @@ use Rattle.selection.proofs.Listed.{ranges_rise}
 use Rattle.selection.proofs.Rising.{rising_shifted}
 use Rattle.chunked.specs.Spans.{EndsBy, Spans, in_span, span_end, span_start}
 use Rattle.settle.proofs.Settled.{at, run_places}
-use Rattle.chunked.proofs.Cuts.{Cut, Parted, cut, drop-cut}
-use Rattle.chunked.proofs.Spanning.{ends-ahead, ends_rise, runs_at, runs_drop, span_all, span_append, span_below, span_split, span-stops, span_within, starts_after}
+use Rattle.chunked.proofs.Cuts.{Cut, Parted, cut, drop_cut}
+use Rattle.chunked.proofs.Spanning.{ends_ahead, ends_rise, runs_at, runs_drop, span_all, span_append, span_below, span_split, span_stops, span_within, starts_after}
 
 -- the first k places are done; the others are those of the runs from next on, from place resume on
 pub record Cursor (offset : ℕ) (runs : List Run) (k next resume : ℕ) : Type 0 where
@@ -25,16 +25,16 @@ module _ (offset : ℕ) (runs : List Run) (up : RunsRise 0 16777216 runs) (small
   pub places_rise : Rising (offset + 0) (offset + 16777216) (run_places offset runs)
   places_rise = rising_shifted offset 0 16777216 (flat_map range runs) (ranges_rise 0 16777216 runs up)
 
-  pub cursor-start : Cursor offset runs 0 0 0
-  cursor-start = record {
+  pub cursor_start : Cursor offset runs 0 0 0
+  cursor_start = record {
     rest = sym (span_all offset 16778240 0 16777216 runs up (omega arith));
     within = omega arith;
     ahead = λ h. let r = runs_at 0 16777216 runs 0 up h in omega arith;
   }
 
   -- at the end all places are done
-  pub cursor-end : (k next resume : ℕ) → Cursor offset runs k next resume → length runs ≤ next → length (run_places offset runs) ≤ k
-  cursor-end k next resume h l =
+  pub cursor_end : (k next resume : ℕ) → Cursor offset runs k next resume → length runs ≤ next → length (run_places offset runs) ≤ k
+  cursor_end k next resume h l =
       let none : drop next runs ≡ [] = drop_all next runs l in
       let left : length (drop k (run_places offset runs)) ≡ 0 = ap length (h.rest ∙ ap (in_span offset resume 16778240) none) in
       let n = length-drop k (run_places offset runs) in
@@ -70,27 +70,27 @@ module _ (offset : ℕ) (runs : List Run) (up : RunsRise 0 16777216 runs) (small
 
       later : in_span offset ((c + 1) * 1024) 16778240 (drop next runs) ≡ in_span offset ((c + 1) * 1024) 16778240 (drop after runs)
       later =
-          ap (in_span offset ((c + 1) * 1024) 16778240) (drop-cut runs next after order.0)
+          ap (in_span offset ((c + 1) * 1024) 16778240) (drop_cut runs next after order.0)
           ∙ span_append offset ((c + 1) * 1024) 16778240 (between next after runs) (drop after runs)
           ∙ ap (λ xs. xs ++ in_span offset ((c + 1) * 1024) 16778240 (drop after runs)) (span_below offset ((c + 1) * 1024) 16778240 (between next after runs) bounds.1 done)
 
-      pub part-is : between k (k + n) (run_places offset runs) ≡ in_span offset resume ((c + 1) * 1024) (drop next runs)
-      part-is =
+      pub part_is : between k (k + n) (run_places offset runs) ≡ in_span offset resume ((c + 1) * 1024) (drop next runs)
+      part_is =
           let on : k + n - k ≡ n = omega arith in
           ap₂ take on parts ∙ take_at (in_span offset resume ((c + 1) * 1024) (drop next runs)) (in_span offset ((c + 1) * 1024) 16778240 (drop next runs)) n (sym count)
 
-      rest-is : drop (k + n) (run_places offset runs) ≡ in_span offset ((c + 1) * 1024) 16778240 (drop after runs)
-      rest-is =
+      rest_is : drop (k + n) (run_places offset runs) ≡ in_span offset ((c + 1) * 1024) 16778240 (drop after runs)
+      rest_is =
           sym (drop-drop n k (run_places offset runs))
           ∙ ap (drop n) parts
           ∙ drop_at (in_span offset resume ((c + 1) * 1024) (drop next runs)) (in_span offset ((c + 1) * 1024) 16778240 (drop next runs)) n (sym count)
           ∙ later
 
-      pub cursor-more : (after < length runs → (c + 1) * 1024 < (get_or runs after no_run).«end» + offset) → Cursor offset runs (k + n) after ((c + 1) * 1024)
-      cursor-more past = record { rest = rest-is; within = order.1; ahead = past }
+      pub cursor_more : (after < length runs → (c + 1) * 1024 < (get_or runs after no_run).«end» + offset) → Cursor offset runs (k + n) after ((c + 1) * 1024)
+      cursor_more past = record { rest = rest_is; within = order.1; ahead = past }
 
-      pub cursor-cut : Parted (run_places offset runs) k → Cut (run_places offset runs) k (k + n) c
-      cursor-cut parted =
+      pub cursor_cut : Parted (run_places offset runs) k → Cut (run_places offset runs) k (k + n) c
+      cursor_cut parted =
           let first = next_place in
           let size = length-drop k (run_places offset runs) in
           let long = ap length parts in
@@ -114,41 +114,41 @@ module _ (offset : ℕ) (runs : List Run) (up : RunsRise 0 16777216 runs) (small
           above l =
               let on : k + n + 0 ≡ k + n = omega arith in
               let size = length-drop (k + n) (run_places offset runs) in
-              let long = ap length rest-is in
+              let long = ap length rest_is in
               let read : get_or (run_places offset runs) (k + n) 0 ≡ get_or (in_span offset ((c + 1) * 1024) 16778240 (drop after runs)) 0 0 =
               ap (λ i. get_or (run_places offset runs) i 0) (sym on)
               ∙ sym (get_or-drop (k + n) (run_places offset runs) 0 0)
-              ∙ ap (λ xs. get_or xs 0 0) rest-is in
+              ∙ ap (λ xs. get_or xs 0 0) rest_is in
               let bound = All-get_or (λ p. ((c + 1) * 1024 ≤ p) × (p < 16778240)) (in_span offset ((c + 1) * 1024) 16778240 (drop after runs)) 0 0 (omega arith) (span_within offset ((c + 1) * 1024) 16778240 (drop after runs) bounds.1) in
               omega arith
 
       -- the runs that meet the chunk
       module _ (last : ℕ) (ends : last ≡ min (length runs) (after + 1)) (past : after < length runs → (c + 1) * 1024 < (get_or runs after no_run).«end» + offset) where
-        pub part-runs : in_span offset resume ((c + 1) * 1024) (between next last runs) ≡ in_span offset resume ((c + 1) * 1024) (drop next runs)
-        part-runs = ⊎_elim stops goes_on (cases_lt after (length runs))
+        pub part_runs : in_span offset resume ((c + 1) * 1024) (between next last runs) ≡ in_span offset resume ((c + 1) * 1024) (drop next runs)
+        part_runs = ⊎_elim stops goes_on (cases_lt after (length runs))
           where
             stops : after < length runs → in_span offset resume ((c + 1) * 1024) (between next last runs) ≡ in_span offset resume ((c + 1) * 1024) (drop next runs)
             stops l =
                 let e : last ≡ after + 1 = omega arith in
-                ap (λ m. in_span offset resume ((c + 1) * 1024) (between next m runs)) e ∙ sym (span-stops offset resume ((c + 1) * 1024) runs next after up order.0 l (past l))
+                ap (λ m. in_span offset resume ((c + 1) * 1024) (between next m runs)) e ∙ sym (span_stops offset resume ((c + 1) * 1024) runs next after up order.0 l (past l))
 
             goes_on : length runs ≤ after → in_span offset resume ((c + 1) * 1024) (between next last runs) ≡ in_span offset resume ((c + 1) * 1024) (drop next runs)
             goes_on l = ap (in_span offset resume ((c + 1) * 1024)) (between_to_end runs next last (omega arith))
 
-        pub part-order : (next ≤ last) × (last ≤ length runs)
-        part-order = let o = order.0 in let p = order.1 in (omega arith, omega arith)
+        pub part_order : (next ≤ last) × (last ≤ length runs)
+        part_order = let o = order.0 in let p = order.1 in (omega arith, omega arith)
 
-        pub part-spans : All (Spans offset resume ((c + 1) * 1024) (c * 1024)) (between next last runs)
-        part-spans = All-from_get_or (Spans offset resume ((c + 1) * 1024) (c * 1024)) (between next last runs) no_run each
+        pub part_spans : All (Spans offset resume ((c + 1) * 1024) (c * 1024)) (between next last runs)
+        part_spans = All-from_get_or (Spans offset resume ((c + 1) * 1024) (c * 1024)) (between next last runs) no_run each
           where
             each : (m : ℕ) → m < length (between next last runs) → Spans offset resume ((c + 1) * 1024) (c * 1024) (get_or (between next last runs) m no_run)
             each m l =
-                let size = length-between runs next last part-order.1 in
+                let size = length-between runs next last part_order.1 in
                 let under : next + m < last = omega arith in
                 let read = get_or-between runs next last m no_run under in
-                let in_list : next + m < length runs = let o = part-order.1 in omega arith in
+                let in_list : next + m < length runs = let o = part_order.1 in omega arith in
                 let at-m = runs_at 0 16777216 runs (next + m) up in_list in
-                let ahead = ends-ahead offset resume ((c + 1) * 1024) runs next (next + m) up (omega arith) in_list h.ahead in
+                let ahead = ends_ahead offset resume ((c + 1) * 1024) runs next (next + m) up (omega arith) in_list h.ahead in
                 let b = bounds in
                 let low : c * 1024 ≤ max ((get_or runs (next + m) no_run).start + offset) resume = starts_from m in_list in
                 rw read (record { «from» = omega arith; to = omega arith; ordered = omega arith; above = omega arith })

@@ -17,7 +17,7 @@ use Rattle.settle.specs.Pushes.{moved}
 use Rattle.chunked.specs.Served.{compacted, compacts_chunk, last_compacted, last_of}
 use Rattle.settle.proofs.Sums.{price_mono, sum_add, sum_le, sum_one, sum_same}
 use Rattle.settle.proofs.Settled.{at}
-use Rattle.settle.proofs.Chunks.{none-else, none_kept, only_here}
+use Rattle.settle.proofs.Chunks.{none_else, none_kept, only_here}
 
 -- what stands before place i lies in earlier chunks than what stands there
 abbrev pub Parted : List ℕ → ℕ → Type 0
@@ -92,28 +92,28 @@ cut lo hi ps i j c up l e parted more within below above =
     later k h in_List (inr a) = let x = below k a h in let y = above in_List in omega arith
 
 module _ {X : Type 0} (ps : List X) (i j : ℕ) (up : i ≤ j) where
-  pub take-cut : take j ps ≡ take i ps ++ between i j ps
-  take-cut = let on : i + (j - i) ≡ j = omega arith in ap (λ n. take n ps) (sym on) ∙ take-add i (j - i) ps
+  pub take_cut : take j ps ≡ take i ps ++ between i j ps
+  take_cut = let on : i + (j - i) ≡ j = omega arith in ap (λ n. take n ps) (sym on) ∙ take-add i (j - i) ps
 
-  pub drop-cut : drop i ps ≡ between i j ps ++ drop j ps
-  drop-cut =
+  pub drop_cut : drop i ps ≡ between i j ps ++ drop j ps
+  drop_cut =
       let on : i + (j - i) ≡ j = omega arith in
       sym (take-append-drop (j - i) (drop i ps)) ∙ ap (λ xs. between i j ps ++ xs) (drop-drop (j - i) i ps ∙ ap (λ n. drop n ps) on)
 
 -- places of one chunk
 module _ (c : ℕ) (ys : List ℕ) (here : All (λ p. p / 1024 ≡ c) ys) where
   -- how many of them a chunk has
-  count-here : (d : ℕ) → length (chunk_places ys d) ≡ cond (eqb c d) (length ys) 0
-  count-here d = go (cases_eq c d)
+  count_here : (d : ℕ) → length (chunk_places ys d) ≡ cond (eqb c d) (length ys) 0
+  count_here d = go (cases_eq c d)
     where
       go : (c ≡ d) ⊎ (c ≡ d → ⊥) → length (chunk_places ys d) ≡ cond (eqb c d) (length ys) 0
       go (inl e) = rw (← e, eq-eqb c c refl) (ap length (only_here c ys here))
-      go (inr ne) = rw (ne_eqb c d ne) (ap length (none-else c ys here d ne))
+      go (inr ne) = rw (ne_eqb c d ne) (ap length (none_else c ys here d ne))
 
-  pub fee-one : (L n : ℕ) → c < n → fee_of L n ys ≡ price L (length ys)
+  pub fee_one : (L n : ℕ) → c < n → fee_of L n ys ≡ price L (length ys)
   unfolding fee_of
-  fee-one L n l =
-      sum_same (price_of_chunk L ys) (λ d. cond (eqb c d) (price L (length ys)) 0) n (λ d _. ap (price L) (count-here d) ∙ priced d)
+  fee_one L n l =
+      sum_same (price_of_chunk L ys) (λ d. cond (eqb c d) (price L (length ys)) 0) n (λ d _. ap (price L) (count_here d) ∙ priced d)
       ∙ sum_one c (price L (length ys)) n
       ∙ ap (λ b. cond b (price L (length ys)) 0) (lt-ltb c n l)
     where
@@ -125,17 +125,17 @@ module _ (c : ℕ) (ys : List ℕ) (here : All (λ p. p / 1024 ≡ c) ys) where
     none_yet : (d : ℕ) → c ≤ d → chunk_places xs d ≡ []
     none_yet d l = none_kept (in_chunk d) xs (All-weaker (λ p. p / 1024 < c) (λ p. in_chunk d p ≡ false) (λ p h. ne_eqb (p / 1024) d (λ e. omega arith)) xs earlier)
 
-    count-both : (d : ℕ) → length (chunk_places (xs ++ ys) d) ≡ length (chunk_places xs d) + length (chunk_places ys d)
-    count-both d = ap length (filter-append (in_chunk d) xs ys) ∙ length-append (chunk_places xs d) (chunk_places ys d)
+    count_both : (d : ℕ) → length (chunk_places (xs ++ ys) d) ≡ length (chunk_places xs d) + length (chunk_places ys d)
+    count_both d = ap length (filter-append (in_chunk d) xs ys) ∙ length-append (chunk_places xs d) (chunk_places ys d)
 
     -- a chunk has places of one of the two only
     apart : (d : ℕ) → (length (chunk_places xs d) ≡ 0) ⊎ (length (chunk_places ys d) ≡ 0)
-    apart d = ⊎_elim (λ e. inl (ap length (none_yet d (omega arith)))) (λ ne. inr (ap length (none-else c ys here d ne))) (cases_eq c d)
+    apart d = ⊎_elim (λ e. inl (ap length (none_yet d (omega arith)))) (λ ne. inr (ap length (none_else c ys here d ne))) (cases_eq c d)
 
-    pub fee-append : (L n : ℕ) → fee_of L n (xs ++ ys) ≡ fee_of L n xs + fee_of L n ys
+    pub fee_append : (L n : ℕ) → fee_of L n (xs ++ ys) ≡ fee_of L n xs + fee_of L n ys
     unfolding fee_of
-    fee-append L n =
-        sum_same (price_of_chunk L (xs ++ ys)) (λ d. price_of_chunk L xs d + price_of_chunk L ys d) n (λ d _. ap (price L) (count-both d) ∙ priced (length (chunk_places xs d)) (length (chunk_places ys d)) (apart d))
+    fee_append L n =
+        sum_same (price_of_chunk L (xs ++ ys)) (λ d. price_of_chunk L xs d + price_of_chunk L ys d) n (λ d _. ap (price L) (count_both d) ∙ priced (length (chunk_places xs d)) (length (chunk_places ys d)) (apart d))
         ∙ sum_add (price_of_chunk L xs) (price_of_chunk L ys) n
       where
         priced : (a b : ℕ) → (a ≡ 0) ⊎ (b ≡ 0) → price L (a + b) ≡ price L a + price L b
@@ -143,9 +143,9 @@ module _ (c : ℕ) (ys : List ℕ) (here : All (λ p. p / 1024 ≡ c) ys) where
         priced a b (inr e) = grind (arith, nat_tests)
 
     -- the chunks that go through scratch, by tests: t is tx before c, and ty from c on
-    split-kept : (t tx ty : ℕ → Bool) → ((d : ℕ) → d < c → (t d ≡ tx d) × (ty d ≡ false)) → ((d : ℕ) → c ≤ d → (t d ≡ ty d) × (tx d ≡ false)) → (n a : ℕ) → filter t (range_with_len a n) ≡ filter tx (range_with_len a n) ++ filter ty (range_with_len a n)
-    split-kept t tx ty low high zero a = refl
-    split-kept t tx ty low high (suc n) a = go (split-kept t tx ty low high n (a + 1)) (cases_lt a c)
+    split_kept : (t tx ty : ℕ → Bool) → ((d : ℕ) → d < c → (t d ≡ tx d) × (ty d ≡ false)) → ((d : ℕ) → c ≤ d → (t d ≡ ty d) × (tx d ≡ false)) → (n a : ℕ) → filter t (range_with_len a n) ≡ filter tx (range_with_len a n) ++ filter ty (range_with_len a n)
+    split_kept t tx ty low high zero a = refl
+    split_kept t tx ty low high (suc n) a = go (split_kept t tx ty low high n (a + 1)) (cases_lt a c)
       where
         go : filter t (range_with_len (a + 1) n) ≡ filter tx (range_with_len (a + 1) n) ++ filter ty (range_with_len (a + 1) n) → (a < c) ⊎ (c ≤ a) → filter t (range_with_len a (suc n)) ≡ filter tx (range_with_len a (suc n)) ++ filter ty (range_with_len a (suc n))
         go rest (inl l) = rw ((low a l).0, (low a l).1) (one (tx a) rest)
@@ -159,34 +159,34 @@ module _ (c : ℕ) (ys : List ℕ) (here : All (λ p. p / 1024 ≡ c) ys) where
             let same = kept_same t ty (range_with_len a (suc n)) (All-weaker (λ d. (a ≤ d) × (d < a + suc n)) (λ d. t d ≡ ty d) (λ d h. (high d (omega arith)).0) (range_with_len a (suc n)) all) in
             same ∙ ap (λ zs. zs ++ filter ty (range_with_len a (suc n))) (sym none)
 
-    pub last-append : (L n : ℕ) → last_compacted L n (xs ++ ys) ≡ or_else (last_compacted L n ys) (last_compacted L n xs)
+    pub last_append : (L n : ℕ) → last_compacted L n (xs ++ ys) ≡ or_else (last_compacted L n ys) (last_compacted L n xs)
     unfolding last_compacted
-    last-append L n =
-        ap last_of (split-kept (compacts_chunk L (xs ++ ys)) (compacts_chunk L xs) (compacts_chunk L ys) low high n 0)
-        ∙ last-of (filter (compacts_chunk L xs) (range_with_len 0 n)) (filter (compacts_chunk L ys) (range_with_len 0 n))
+    last_append L n =
+        ap last_of (split_kept (compacts_chunk L (xs ++ ys)) (compacts_chunk L xs) (compacts_chunk L ys) low high n 0)
+        ∙ last_of_list (filter (compacts_chunk L xs) (range_with_len 0 n)) (filter (compacts_chunk L ys) (range_with_len 0 n))
       where
         empty : compacted L 0 ≡ false
         empty = grind (arith, nat_tests)
 
         low : (d : ℕ) → d < c → (compacts_chunk L (xs ++ ys) d ≡ compacts_chunk L xs d) × (compacts_chunk L ys d ≡ false)
         low d l =
-            let none : length (chunk_places ys d) ≡ 0 = ap length (none-else c ys here d (λ e. omega arith)) in
-            let both : length (chunk_places (xs ++ ys) d) ≡ length (chunk_places xs d) = let b = count-both d in omega arith in
+            let none : length (chunk_places ys d) ≡ 0 = ap length (none_else c ys here d (λ e. omega arith)) in
+            let both : length (chunk_places (xs ++ ys) d) ≡ length (chunk_places xs d) = let b = count_both d in omega arith in
             (ap (compacted L) both, ap (compacted L) none ∙ empty)
 
         high : (d : ℕ) → c ≤ d → (compacts_chunk L (xs ++ ys) d ≡ compacts_chunk L ys d) × (compacts_chunk L xs d ≡ false)
         high d l =
             let none : length (chunk_places xs d) ≡ 0 = ap length (none_yet d l) in
-            let both : length (chunk_places (xs ++ ys) d) ≡ length (chunk_places ys d) = let b = count-both d in omega arith in
+            let both : length (chunk_places (xs ++ ys) d) ≡ length (chunk_places ys d) = let b = count_both d in omega arith in
             (ap (compacted L) both, ap (compacted L) none ∙ empty)
 
-        last-of : (as' bs : List ℕ) → last_of (as' ++ bs) ≡ or_else (last_of bs) (last_of as')
-        last-of [] bs = or_none (last_of bs)
+        last_of_list : (as' bs : List ℕ) → last_of (as' ++ bs) ≡ or_else (last_of bs) (last_of as')
+        last_of_list [] bs = or_none (last_of bs)
           where
             or_none : (o : Option ℕ) → o ≡ or_else o None
             or_none None = refl
             or_none (Some x) = refl
-        last-of (a ∷ as') bs = ap (λ o. or_else o (Some a)) (last-of as' bs) ∙ or_assoc (last_of bs) (last_of as')
+        last_of_list (a ∷ as') bs = ap (λ o. or_else o (Some a)) (last_of_list as' bs) ∙ or_assoc (last_of bs) (last_of as')
           where
             or_assoc : (o p : Option ℕ) → or_else (or_else o p) (Some a) ≡ or_else o (or_else p (Some a))
             or_assoc None p = refl
@@ -195,7 +195,7 @@ module _ (c : ℕ) (ys : List ℕ) (here : All (λ p. p / 1024 ≡ c) ys) where
   -- the chunk itself, if it goes through scratch
   pub last_one : (L n : ℕ) → c < n → last_compacted L n ys ≡ when (compacted L (length ys)) c
   unfolding last_compacted
-  last_one L n l = ap last_of (kept_same (compacts_chunk L ys) (λ d. eqb c d && compacted L (length ys)) (range_with_len 0 n) (All-weaker (λ d. (0 ≤ d) × (d < n)) (λ d. compacts_chunk L ys d ≡ (eqb c d && compacted L (length ys))) (λ d _. ap (compacted L) (count-here d) ∙ tested d) (range_with_len 0 n) (rising_all 0 n (range_with_len 0 n) (rising_counting 0 n n (omega arith))))) ∙ one (compacted L (length ys))
+  last_one L n l = ap last_of (kept_same (compacts_chunk L ys) (λ d. eqb c d && compacted L (length ys)) (range_with_len 0 n) (All-weaker (λ d. (0 ≤ d) × (d < n)) (λ d. compacts_chunk L ys d ≡ (eqb c d && compacted L (length ys))) (λ d _. ap (compacted L) (count_here d) ∙ tested d) (range_with_len 0 n) (rising_all 0 n (range_with_len 0 n) (rising_counting 0 n n (omega arith))))) ∙ one (compacted L (length ys))
     where
       tested : (d : ℕ) → compacted L (cond (eqb c d) (length ys) 0) ≡ (eqb c d && compacted L (length ys))
       tested d = grind (arith, nat_tests)
@@ -213,11 +213,11 @@ module _ (c : ℕ) (ys : List ℕ) (here : All (λ p. p / 1024 ≡ c) ys) where
           never false = refl
 
 module _ {ps : List ℕ} {i j c : ℕ} (k : Cut ps i j c) where
-  pub fee-cut : (L n : ℕ) → c < n → fee_of L n (take j ps) ≡ fee_of L n (take i ps) + price L (j - i)
-  fee-cut L n l =
-      ap (fee_of L n) (take-cut ps i j (let m = k.more in omega arith))
-      ∙ fee-append c (between i j ps) k.here (take i ps) k.before L n
-      ∙ ap (λ m. fee_of L n (take i ps) + m) (fee-one c (between i j ps) k.here L n l ∙ ap (price L) (length-between ps i j k.within))
+  pub fee_cut : (L n : ℕ) → c < n → fee_of L n (take j ps) ≡ fee_of L n (take i ps) + price L (j - i)
+  fee_cut L n l =
+      ap (fee_of L n) (take_cut ps i j (let m = k.more in omega arith))
+      ∙ fee_append c (between i j ps) k.here (take i ps) k.before L n
+      ∙ ap (λ m. fee_of L n (take i ps) + m) (fee_one c (between i j ps) k.here L n l ∙ ap (price L) (length-between ps i j k.within))
 
 -- a chunk has at most 1,024 of ascending places
 pub chunk_most : (lo hi : ℕ) (ps : List ℕ) → Rising lo hi ps → (c : ℕ) → length (chunk_places ps c) ≤ 1024
@@ -265,17 +265,17 @@ cut_rises lo hi ps i j c up k =
 
 -- a list that is put together of places before a chunk, of the chunk, and past it
 module _ (xs ys zs : List ℕ) (c : ℕ) (before : All (λ p. p / 1024 < c) xs) (here : All (λ p. p / 1024 ≡ c) ys) (past : All (λ p. c < p / 1024) zs) (some : 0 < length ys) where
-  drop-front : drop (length xs) (xs ++ (ys ++ zs)) ≡ ys ++ zs
-  drop-front = drop_at xs (ys ++ zs) (length xs) refl
+  drop_front : drop (length xs) (xs ++ (ys ++ zs)) ≡ ys ++ zs
+  drop_front = drop_at xs (ys ++ zs) (length xs) refl
 
   pub part_of : between (length xs) (length xs + length ys) (xs ++ (ys ++ zs)) ≡ ys
-  part_of = let n : length xs + length ys - length xs ≡ length ys = omega arith in ap₂ take n drop-front ∙ take_at ys zs (length ys) refl
+  part_of = let n : length xs + length ys - length xs ≡ length ys = omega arith in ap₂ take n drop_front ∙ take_at ys zs (length ys) refl
 
-  all-long : length (xs ++ (ys ++ zs)) ≡ length xs + (length ys + length zs)
-  all-long = length-append xs (ys ++ zs) ∙ ap (λ n. length xs + n) (length-append ys zs)
+  all_long : length (xs ++ (ys ++ zs)) ≡ length xs + (length ys + length zs)
+  all_long = length-append xs (ys ++ zs) ∙ ap (λ n. length xs + n) (length-append ys zs)
 
-  in-part : (k : ℕ) → length xs ≤ k → k < length xs + length ys → get_or (xs ++ (ys ++ zs)) k 0 / 1024 ≡ c
-  in-part k a b =
+  in_part : (k : ℕ) → length xs ≤ k → k < length xs + length ys → get_or (xs ++ (ys ++ zs)) k 0 / 1024 ≡ c
+  in_part k a b =
       let inside : k - length xs < length ys = omega arith in
       let read : get_or (xs ++ (ys ++ zs)) k 0 ≡ get_or ys (k - length xs) 0 = get_or-append_right xs (ys ++ zs) (length xs) k 0 refl a ∙ get_or_append_left ys zs 0 (k - length xs) inside in
       let e = All-get_or (λ p. p / 1024 ≡ c) ys (k - length xs) 0 inside here in
@@ -284,12 +284,12 @@ module _ (xs ys zs : List ℕ) (c : ℕ) (before : All (λ p. p / 1024 < c) xs) 
   pub cut_of : Cut (xs ++ (ys ++ zs)) (length xs) (length xs + length ys) c
   cut_of = record {
     more = omega arith;
-    within = let n = all-long in omega arith;
+    within = let n = all_long in omega arith;
     before = subst (All (λ p. p / 1024 < c)) (sym (take_at xs (ys ++ zs) (length xs) refl)) before;
     here = subst (All (λ p. p / 1024 ≡ c)) (sym part_of) here;
-    low = λ k a b. let e = in-part k a b in omega arith;
-    high = λ k a b. let e = in-part k a b in omega arith;
-    parted = λ k a b. let last = at-end b in let e = up_to k a (cases_lt k (length xs)) in omega arith;
+    low = λ k a b. let e = in_part k a b in omega arith;
+    high = λ k a b. let e = in_part k a b in omega arith;
+    parted = λ k a b. let last = at_end b in let e = up_to k a (cases_lt k (length xs)) in omega arith;
   }
     where
       up_to : (k : ℕ) → k < length xs + length ys → (k < length xs) ⊎ (length xs ≤ k) → get_or (xs ++ (ys ++ zs)) k 0 / 1024 ≤ c
@@ -297,11 +297,11 @@ module _ (xs ys zs : List ℕ) (c : ℕ) (before : All (λ p. p / 1024 < c) xs) 
           let read = get_or_append_left xs (ys ++ zs) 0 k l in
           let e = All-get_or (λ p. p / 1024 < c) xs k 0 l before in
           omega arith
-      up_to k a (inr l) = let e = in-part k l a in omega arith
+      up_to k a (inr l) = let e = in_part k l a in omega arith
 
-      at-end : length xs + length ys < length (xs ++ (ys ++ zs)) → c < get_or (xs ++ (ys ++ zs)) (length xs + length ys) 0 / 1024
-      at-end b =
-          let n = all-long in
+      at_end : length xs + length ys < length (xs ++ (ys ++ zs)) → c < get_or (xs ++ (ys ++ zs)) (length xs + length ys) 0 / 1024
+      at_end b =
+          let n = all_long in
           let on : length xs + length ys - length xs ≡ length ys = omega arith in
           let none : length ys - length ys ≡ 0 = omega arith in
           let read : get_or (xs ++ (ys ++ zs)) (length xs + length ys) 0 ≡ get_or zs 0 0 =
@@ -319,16 +319,16 @@ module _ (offset : ℕ) (is : List ℕ) where
 
   -- the indices of one chunk, found by a walk to the first that is not below the chunk's end
   module _ (up : Rising 0 16777216 is) (small : offset ≤ 1024) where
-    pub cut-here : (i j c : ℕ) → i < length is → c ≡ (get_or is i 0 + offset) / 1024 → Parted (at offset is) i → i ≤ j → j ≤ length is → ((k : ℕ) → i ≤ k → k < j → get_or is k 0 < (c + 1) * 1024 - offset) → (j < length is → (c + 1) * 1024 - offset ≤ get_or is j 0) → Cut (at offset is) i j c
-    cut-here i j c h e parted more within below past =
+    pub cut_here : (i j c : ℕ) → i < length is → c ≡ (get_or is i 0 + offset) / 1024 → Parted (at offset is) i → i ≤ j → j ≤ length is → ((k : ℕ) → i ≤ k → k < j → get_or is k 0 < (c + 1) * 1024 - offset) → (j < length is → (c + 1) * 1024 - offset ≤ get_or is j 0) → Cut (at offset is) i j c
+    cut_here i j c h e parted more within below past =
         let size = length-map is (moved offset) in
         let first-is = place_is i h in
         cut (offset + 0) (offset + 16777216) (at offset is) i j c (rising_shifted offset 0 16777216 is up) (omega arith) (e ∙ ap (λ p. p / 1024) (add_comm (get_or is i 0) offset ∙ sym first-is)) parted more (omega arith)
         (λ k a b. let read = place_is k (omega arith) in let less = below k a b in omega arith)
         (λ l. let read = place_is j (omega arith) in let less = past (omega arith) in omega arith)
 
-    pub below-limit : (i : ℕ) → i < length is → get_or is i 0 < 16777216
-    below-limit i h = (rising_get_d 0 16777216 is i up h).1
+    pub below_limit : (i : ℕ) → i < length is → get_or is i 0 < 16777216
+    below_limit i h = (rising_get_d 0 16777216 is i up h).1
 
 -- a part of some indices
 pub between_at : (offset : ℕ) (is : List ℕ) (i j : ℕ) → at offset (between i j is) ≡ between i j (at offset is)

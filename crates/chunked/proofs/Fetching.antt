@@ -4,7 +4,7 @@ use borrow.Rule.Slice.PartMut.{put_mid}
 use Rattle.std.proofs.lemmas.List.{append-nil, drop_all, drop-drop, length-drop, take_rest}
 use Rattle.kernels.specs.Moved.{gather, splice}
 use Rattle.source.specs.Fetched.{Held, delivered, fetch_fault, fetched, holding, place_in}
-use Rattle.source.proofs.Fetches.{fetched-ok}
+use Rattle.source.proofs.Fetches.{fetched_ok}
 
 -- a write from the first place of a part
 pub splice_part : {T : Type 0} (out : List T) (at : ℕ) (vs : List T) → take at out ++ splice (drop at out) 0 vs ≡ splice out at vs
@@ -25,7 +25,7 @@ pub record Fetch {T : Type 0} (xs xs' : List T) (left left' : ℕ) (out out' : L
 
 pub fetched_part : {T : Type 0} (xs xs' : List T) (left left' : ℕ) (out part : List T) (at c : ℕ) (is : List ℕ) → fetch_fault (holding xs left (drop at out)) c is ≡ None → holding xs' left' part ≡ fetched (holding xs left (take (length out - at) (drop at out))) c is → Fetch xs xs' left left' out (put_mid at (length out - at) out part) at c is
 fetched_part xs xs' left left' out part at c is clear e =
-    let done : holding xs' left' part ≡ delivered (holding xs left (drop at out)) c is = e ∙ ap (λ zs. fetched (holding xs left zs) c is) (take_rest out at) ∙ fetched-ok (holding xs left (drop at out)) c is clear in
+    let done : holding xs' left' part ≡ delivered (holding xs left (drop at out)) c is = e ∙ ap (λ zs. fetched (holding xs left zs) c is) (take_rest out at) ∙ fetched_ok (holding xs left (drop at out)) c is clear in
     record {
       kept = ap (λ h. h.readings) done;
       paid = ap (λ h. h.allowance) done;

@@ -23,7 +23,7 @@ use Rattle.chunked.specs.Served.{Servable, Store, compacted, compacts_chunk, las
 use Rattle.settle.proofs.Settled.{at}
 use Rattle.settle.proofs.Chunks.{fee_none}
 use Rattle.chunked.proofs.Fetching.{Fetch, splice_part}
-use Rattle.chunked.proofs.Cuts.{Cut, Parted, cut_rises, fee-append, fee-cut, fee-one, fee_part, last-append, last_one, take-cut}
+use Rattle.chunked.proofs.Cuts.{Cut, Parted, cut_rises, fee_append, fee_cut, fee_one, fee_part, last_append, last_one, take_cut}
 
 -- places in chunks of the source are places of the source
 pub places_inside : {T : Type 0} (xs : List T) (ps : List ℕ) → Whole xs → All (λ p. p / 1024 < chunks_of xs) ps → All (λ p. p < length xs) ps
@@ -50,11 +50,11 @@ same_store h₁ h₂ h₃ h₄ = cc
 
 -- places of earlier chunks, and then those of one chunk
 module _ {T : Type 0} (L : ℕ) (s : Store T) (pos c : ℕ) (xs ys : List ℕ) (earlier : All (λ p. p / 1024 < c) xs) (here : All (λ p. p / 1024 ≡ c) ys) (chunk : c < chunks_of s.readings) (whole : Whole s.readings) (room : pos ≤ length s.output) where
-  pub serving-append : serving L (serving L s pos xs) (pos + length xs) ys ≡ serving L s pos (xs ++ ys)
+  pub serving_append : serving L (serving L s pos xs) (pos + length xs) ys ≡ serving L s pos (xs ++ ys)
   unfolding serving
-  serving-append =
+  serving_append =
       let n = chunks_of s.readings in
-      let cost = fee-append c ys here xs earlier L n in
+      let cost = fee_append c ys here xs earlier L n in
       let inside = places_inside s.readings xs whole (All-weaker (λ p. p / 1024 < c) (λ p. p / 1024 < n) (λ p l. omega arith) xs earlier) in
       let values = length_gather s.readings xs inside in
       let allowance : s.allowance - fee_of L n xs - fee_of L n ys ≡ s.allowance - fee_of L n (xs ++ ys) = omega arith in
@@ -62,14 +62,14 @@ module _ {T : Type 0} (L : ℕ) (s : Store T) (pos c : ℕ) (xs ys : List ℕ) (
       splice_splice s.output pos (length xs) (gather s.readings xs) (gather s.readings ys) values room
       ∙ ap (splice s.output pos) (sym (gather_append s.readings xs ys)) in
       let one = last_one c ys here L n chunk in
-      let full : (d : ℕ) → last_compacted L n ys ≡ Some d → 1024 * d + 1024 ≤ length s.readings = λ d e. last-full d (sym one ∙ e) in
+      let full : (d : ℕ) → last_compacted L n ys ≡ Some d → 1024 * d + 1024 ≤ length s.readings = λ d e. last_full d (sym one ∙ e) in
       let scratch : overlaid s.readings (overlaid s.readings s.scratch (last_compacted L n xs)) (last_compacted L n ys) ≡ overlaid s.readings s.scratch (last_compacted L n (xs ++ ys)) =
       over_twice s.readings s.scratch (last_compacted L n ys) (last_compacted L n xs) full
-      ∙ ap (overlaid s.readings s.scratch) (sym (last-append c ys here xs earlier L n)) in
+      ∙ ap (overlaid s.readings s.scratch) (sym (last_append c ys here xs earlier L n)) in
       same_store refl allowance output scratch
     where
-      last-full : (d : ℕ) → when (compacted L (length ys)) c ≡ Some d → 1024 * d + 1024 ≤ length s.readings
-      last-full d e = go (compacted L (length ys)) e
+      last_full : (d : ℕ) → when (compacted L (length ys)) c ≡ Some d → 1024 * d + 1024 ≤ length s.readings
+      last_full d e = go (compacted L (length ys)) e
         where
           go : (b : Bool) → when b c ≡ Some d → 1024 * d + 1024 ≤ length s.readings
           go true e = let same : c ≡ d = cc in let n = whole.0 in omega arith
@@ -84,28 +84,28 @@ pub record Leaves {T : Type 0} (L : ℕ) (s : Store T) (pos c : ℕ) (ys : List 
 
 -- ascending places of one chunk
 module _ {T : Type 0} (L : ℕ) (s : Store T) (pos c : ℕ) (ys : List ℕ) (ok : Servable (offered L s pos) c ys) where
-  pub part-here : All (λ p. p / 1024 ≡ c) ys
-  part-here = All-weaker (λ p. (1024 * c ≤ p) × (p < 1024 * c + 1024)) (λ p. p / 1024 ≡ c) (λ p h. omega arith) ys (rising_all (1024 * c) (1024 * c + 1024) ys ok.rising)
+  pub part_here : All (λ p. p / 1024 ≡ c) ys
+  part_here = All-weaker (λ p. (1024 * c ≤ p) × (p < 1024 * c + 1024)) (λ p. p / 1024 ≡ c) (λ p h. omega arith) ys (rising_all (1024 * c) (1024 * c + 1024) ys ok.rising)
 
-  pub part-most : length ys ≤ 1024
-  part-most = let n = rising_length (1024 * c) (1024 * c + 1024) ys ok.rising in omega arith
+  pub part_most : length ys ≤ 1024
+  part_most = let n = rising_length (1024 * c) (1024 * c + 1024) ys ok.rising in omega arith
 
   -- a chunk's whole price is payable if it has more places than the limit
-  whole-payable : L < length ys → 1024 ≤ s.allowance
-  whole-payable h = let p = ok.payable in let e : price L (length ys) ≡ 1024 = grind (arith, nat_tests) in omega arith
+  whole_payable : L < length ys → 1024 ≤ s.allowance
+  whole_payable h = let p = ok.payable in let e : price L (length ys) ≡ 1024 = grind (arith, nat_tests) in omega arith
 
-  pub clear-chunk : (out : List T) → 1024 ≤ length out → L < length ys → fetch_fault (holding s.readings s.allowance out) c whole_chunk ≡ None
+  pub clear_chunk : (out : List T) → 1024 ≤ length out → L < length ys → fetch_fault (holding s.readings s.allowance out) c whole_chunk ≡ None
   unfolding fetch_fault
-  clear-chunk out room h =
+  clear_chunk out room h =
       let size = whole_length in
-      let enough = whole-payable h in
+      let enough = whole_payable h in
       admits (chunks_of s.readings) s.allowance (length out) c whole_chunk (record { chunk = ok.chunk; indices = whole_below; places = omega arith; payable = omega arith })
 
-  pub leaves-served : (xs : List T) (left : ℕ) (out aside : List T) → Leaves L s pos c ys xs left out aside → storing xs left out aside ≡ serving L s pos ys
+  pub leaves_served : (xs : List T) (left : ℕ) (out aside : List T) → Leaves L s pos c ys xs left out aside → storing xs left out aside ≡ serving L s pos ys
   unfolding serving
-  leaves-served xs left out aside h =
-      let cost = fee-one c ys part-here L (chunks_of s.readings) ok.chunk in
-      let last = last_one c ys part-here L (chunks_of s.readings) ok.chunk in
+  leaves_served xs left out aside h =
+      let cost = fee_one c ys part_here L (chunks_of s.readings) ok.chunk in
+      let last = last_one c ys part_here L (chunks_of s.readings) ok.chunk in
       same_store h.kept (h.paid ∙ ap (λ m. s.allowance - m) (sym cost)) h.wrote (h.laid ∙ ap (overlaid s.readings s.scratch) (sym last))
 
   -- all readings of the chunk, straight to the output
@@ -140,9 +140,9 @@ module _ {T : Type 0} (L : ℕ) (s : Store T) (pos c offset : ℕ) (is : List �
   pub back : map (place_in c) (map (shifted offset (c * 1024)) is) ≡ at offset is
   back = map_map (place_in c) (shifted offset (c * 1024)) is ∙ map_same (λ i. place_in c (shifted offset (c * 1024) i)) (moved offset) is (All-weaker (Within offset (c * 1024) 1024) (λ i. place_in c (shifted offset (c * 1024) i) ≡ moved offset i) (λ i h. let above = h.above in omega arith) is (inside 1024 (omega arith)))
 
-  pub clear-sparse : (js : List ℕ) → js ≡ map (shifted offset (c * 1024)) is → length is ≤ L → fetch_fault (holding s.readings s.allowance (drop pos s.output)) c js ≡ None
+  pub clear_sparse : (js : List ℕ) → js ≡ map (shifted offset (c * 1024)) is → length is ≤ L → fetch_fault (holding s.readings s.allowance (drop pos s.output)) c js ≡ None
   unfolding fetch_fault
-  clear-sparse js e few =
+  clear_sparse js e few =
       let n : length js ≡ length is = ap length e ∙ length-map is (shifted offset (c * 1024)) in
       let all = count in
       let pay = ok.payable in
@@ -168,7 +168,7 @@ module _ {T : Type 0} (L : ℕ) (s : Store T) (pos c offset : ℕ) (is : List �
   through xs left part out aside more not-all h e f =
       let all = count in
       let size = whole_length in
-      let most = part-most L s pos c (at offset is) ok in
+      let most = part_most L s pos c (at offset is) ok in
       let paid = h.paid in
       let chunk = ok.chunk in
       let even = whole.0 in
@@ -228,8 +228,8 @@ serving_none L s pos =
     never (suc n) a = let no' : compacted L 0 ≡ false = grind (arith, nat_tests) in rw no' (never n (a + 1))
 
 module _ {T : Type 0} (L : ℕ) (s t : Store T) (pos : ℕ) (ps : List ℕ) (i j c lo hi : ℕ) (h : Serves L s t pos ps i) (k : Cut ps i j c) (up : Rising lo hi ps) (ok : Grants (offered L s pos) ps) (whole : Whole s.readings) (room : 1024 ≤ length s.scratch) where
-  first-in : All (λ p. p / 1024 < chunks_of s.readings) (take i ps)
-  first-in = All-take (λ p. p / 1024 < chunks_of s.readings) i ps ok.inside
+  first_in : All (λ p. p / 1024 < chunks_of s.readings) (take i ps)
+  first_in = All-take (λ p. p / 1024 < chunks_of s.readings) i ps ok.inside
 
   -- the cut's chunk is one of the source's
   pub chunk_in : c < chunks_of s.readings
@@ -241,8 +241,8 @@ module _ {T : Type 0} (L : ℕ) (s t : Store T) (pos : ℕ) (ps : List ℕ) (i j
       omega arith
 
   -- there is room for all places up to the cut's end
-  pub room-left : pos + j ≤ length s.output
-  room-left = let fits = ok.fits in let w = k.within in let m = k.more in omega arith
+  pub room_left : pos + j ≤ length s.output
+  room_left = let fits = ok.fits in let w = k.within in let m = k.more in omega arith
 
   -- what the store that is reached offers
   record Offers : Type 0 where
@@ -258,8 +258,8 @@ module _ {T : Type 0} (L : ℕ) (s t : Store T) (pos : ℕ) (ps : List ℕ) (i j
       let m = k.more in
       let n = length-take-le i ps (omega arith) in
       let e = h.state in
-      let r = room-left in
-      let values = length_gather s.readings (take i ps) (places_inside s.readings (take i ps) whole first-in) in
+      let r = room_left in
+      let values = length_gather s.readings (take i ps) (places_inside s.readings (take i ps) whole first_in) in
       record {
         readings = ap (λ x. x.readings) e;
         left = ap (λ x. x.allowance) e;
@@ -267,14 +267,14 @@ module _ {T : Type 0} (L : ℕ) (s t : Store T) (pos : ℕ) (ps : List ℕ) (i j
         scratch = ap (λ x. length x.scratch) e ∙ length_overlaid s.readings s.scratch (last_compacted L (chunks_of s.readings) (take i ps)) room;
       }
 
-  pub cut-servable : Servable (offered L t (pos + i)) c (between i j ps)
-  cut-servable =
+  pub cut_servable : Servable (offered L t (pos + i)) c (between i j ps)
+  cut_servable =
       let o = offers in
       let w = k.within in
       let m = k.more in
       let n = length-between ps i j k.within in
-      let r = room-left in
-      let cost = fee-cut k L (chunks_of s.readings) chunk_in in
+      let r = room_left in
+      let cost = fee_cut k L (chunks_of s.readings) chunk_in in
       let part = fee_part L (chunks_of s.readings) lo hi ps j up in
       let pay = ok.payable in
       let same : chunks_of t.readings ≡ chunks_of s.readings = ap chunks_of o.readings in
@@ -295,8 +295,8 @@ module _ {T : Type 0} (L : ℕ) (s t : Store T) (pos : ℕ) (ps : List ℕ) (i j
         state =
             e
             ∙ ap₂ (λ x p. serving L x p (between i j ps)) h.state n
-            ∙ serving-append L s pos c (take i ps) (between i j ps) k.before k.here chunk_in whole (let r = room-left in omega arith)
-            ∙ ap (serving L s pos) (sym (take-cut ps i j (omega arith)));
+            ∙ serving_append L s pos c (take i ps) (between i j ps) k.before k.here chunk_in whole (let r = room_left in omega arith)
+            ∙ ap (serving L s pos) (sym (take_cut ps i j (omega arith)));
         parted = k.parted;
       }
 

@@ -15,7 +15,7 @@ use Rattle.kernels.proofs.Gathered.{splice_splice}
 use Rattle.settle.specs.Pushes.{moved}
 use Rattle.chunked.specs.Spans.{Spans, in_span, span_end, span_start, spanned}
 use Rattle.settle.proofs.Settled.{at, counting_moved}
-use Rattle.chunked.proofs.Cuts.{drop-cut}
+use Rattle.chunked.proofs.Cuts.{drop_cut}
 use Rattle.chunked.proofs.Fetching.{put_rest, splice_part}
 
 pub span_append : (offset lo hi : ℕ) (rs ss : List Run) → in_span offset lo hi (rs ++ ss) ≡ in_span offset lo hi rs ++ in_span offset lo hi ss
@@ -74,15 +74,15 @@ pub span_split : (offset lo mid hi a b : ℕ) (rs : List Run) → RunsRise a b r
 span_split offset lo mid hi a b [] up l m = refl
 span_split offset lo mid hi a b (r ∷ rs) up l m = ap₂ (λ xs ys. xs ++ ys) (run_split offset lo mid hi r up.1 l m) (span_split offset lo mid hi r.«end» b rs up.3 l m) ∙ shuffle (cases_lt mid (r.«end» + offset))
   where
-    swap-none : (as' bs cs ds : List ℕ) → (bs ≡ []) ⊎ (cs ≡ []) → (as' ++ bs) ++ (cs ++ ds) ≡ (as' ++ cs) ++ (bs ++ ds)
-    swap-none as' bs cs ds (inl e) = rw e (ap (λ xs. xs ++ (cs ++ ds)) (append-nil as') ∙ sym (append_assoc as' cs ds))
-    swap-none as' bs cs ds (inr e) = rw e (append_assoc as' bs ds ∙ ap (λ xs. xs ++ (bs ++ ds)) (sym (append-nil as')))
+    swap_none : (as' bs cs ds : List ℕ) → (bs ≡ []) ⊎ (cs ≡ []) → (as' ++ bs) ++ (cs ++ ds) ≡ (as' ++ cs) ++ (bs ++ ds)
+    swap_none as' bs cs ds (inl e) = rw e (ap (λ xs. xs ++ (cs ++ ds)) (append-nil as') ∙ sym (append_assoc as' cs ds))
+    swap_none as' bs cs ds (inr e) = rw e (append_assoc as' bs ds ∙ ap (λ xs. xs ++ (bs ++ ds)) (sym (append-nil as')))
 
     shuffle : (mid < r.«end» + offset) ⊎ (r.«end» + offset ≤ mid) → (spanned offset lo mid r ++ spanned offset mid hi r) ++ (in_span offset lo mid rs ++ in_span offset mid hi rs) ≡ (spanned offset lo mid r ++ in_span offset lo mid rs) ++ (spanned offset mid hi r ++ in_span offset mid hi rs)
-    shuffle (inl h) = swap-none (spanned offset lo mid r) (spanned offset mid hi r) (in_span offset lo mid rs) (in_span offset mid hi rs) (inr (span_above offset lo mid r.«end» b rs up.3 (omega arith)))
+    shuffle (inl h) = swap_none (spanned offset lo mid r) (spanned offset mid hi r) (in_span offset lo mid rs) (in_span offset mid hi rs) (inr (span_above offset lo mid r.«end» b rs up.3 (omega arith)))
     shuffle (inr h) =
         let s = up.1 in
-        swap-none (spanned offset lo mid r) (spanned offset mid hi r) (in_span offset lo mid rs) (in_span offset mid hi rs) (inl (counting_none (span_start offset mid hi r) (span_end offset hi r - span_start offset mid hi r) (omega arith)))
+        swap_none (spanned offset lo mid r) (spanned offset mid hi r) (in_span offset lo mid rs) (in_span offset mid hi rs) (inl (counting_none (span_start offset mid hi r) (span_end offset hi r - span_start offset mid hi r) (omega arith)))
 
 -- within wide bounds all places
 pub span_all : (offset hi a b : ℕ) (rs : List Run) → RunsRise a b rs → b + offset ≤ hi → in_span offset 0 hi rs ≡ at offset (flat_map range rs)
@@ -162,8 +162,8 @@ ends_rise a b rs i (suc m) up h =
 
 module _ (offset lo hi : ℕ) (runs : List Run) (from i : ℕ) (up : RunsRise 0 16777216 runs) (order : from ≤ i) (here : i < length runs) where
   -- a run from the first on ends after the lower bound
-  pub ends-ahead : (from < length runs → lo < (get_or runs from no_run).«end» + offset) → lo < (get_or runs i no_run).«end» + offset
-  ends-ahead ahead =
+  pub ends_ahead : (from < length runs → lo < (get_or runs from no_run).«end» + offset) → lo < (get_or runs i no_run).«end» + offset
+  ends_ahead ahead =
       let first = ahead (omega arith) in
       let on : from + (i - from) ≡ i = omega arith in
       let later = ends_rise 0 16777216 runs from (i - from) up (omega arith) in
@@ -174,29 +174,29 @@ module _ (offset lo hi : ℕ) (runs : List Run) (from i : ℕ) (up : RunsRise 0 
   pub span_more : in_span offset lo hi (between from (i + 1) runs) ≡ in_span offset lo hi (between from i runs) ++ spanned offset lo hi (get_or runs i no_run)
   span_more = ap (in_span offset lo hi) (between_more runs from i no_run order here) ∙ span_append offset lo hi (between from i runs) (get_or runs i no_run ∷ []) ∙ ap (λ xs. in_span offset lo hi (between from i runs) ++ xs) (append-nil (spanned offset lo hi (get_or runs i no_run)))
 
-  pub count-more : length (in_span offset lo hi (between from (i + 1) runs)) ≡ length (in_span offset lo hi (between from i runs)) + (span_end offset hi (get_or runs i no_run) - span_start offset lo hi (get_or runs i no_run))
-  count-more = ap length span_more ∙ length-append (in_span offset lo hi (between from i runs)) (spanned offset lo hi (get_or runs i no_run)) ∙ ap (λ n. length (in_span offset lo hi (between from i runs)) + n) (length-range_with_len (span_start offset lo hi (get_or runs i no_run)) (span_end offset hi (get_or runs i no_run) - span_start offset lo hi (get_or runs i no_run)))
+  pub count_more : length (in_span offset lo hi (between from (i + 1) runs)) ≡ length (in_span offset lo hi (between from i runs)) + (span_end offset hi (get_or runs i no_run) - span_start offset lo hi (get_or runs i no_run))
+  count_more = ap length span_more ∙ length-append (in_span offset lo hi (between from i runs)) (spanned offset lo hi (get_or runs i no_run)) ∙ ap (λ n. length (in_span offset lo hi (between from i runs)) + n) (length-range_with_len (span_start offset lo hi (get_or runs i no_run)) (span_end offset hi (get_or runs i no_run) - span_start offset lo hi (get_or runs i no_run)))
 
-  pub count-few : length (in_span offset lo hi (between from (i + 1) runs)) ≤ 16777216
-  count-few = let n = span_few offset lo hi 0 16777216 (between from (i + 1) runs) (runs_take 0 16777216 (drop from runs) (i + 1 - from) (runs_drop 0 16777216 runs from up)) (omega arith) in omega arith
+  pub count_few : length (in_span offset lo hi (between from (i + 1) runs)) ≤ 16777216
+  count_few = let n = span_few offset lo hi 0 16777216 (between from (i + 1) runs) (runs_take 0 16777216 (drop from runs) (i + 1 - from) (runs_drop 0 16777216 runs from up)) (omega arith) in omega arith
 
   -- the runs after one that ends past the bound have no place below it
-  pub span-stops : hi < (get_or runs i no_run).«end» + offset → in_span offset lo hi (drop from runs) ≡ in_span offset lo hi (between from (i + 1) runs)
-  span-stops far =
+  pub span_stops : hi < (get_or runs i no_run).«end» + offset → in_span offset lo hi (drop from runs) ≡ in_span offset lo hi (between from (i + 1) runs)
+  span_stops far =
       let s : suc i ≡ i + 1 = omega arith in
       let later : RunsRise (get_or runs i no_run).«end» 16777216 (drop (i + 1) runs) = subst (λ k. RunsRise (get_or runs i no_run).«end» 16777216 (drop k runs)) s (runs_after 0 16777216 runs i up here) in
-      ap (in_span offset lo hi) (drop-cut runs from (i + 1) (omega arith))
+      ap (in_span offset lo hi) (drop_cut runs from (i + 1) (omega arith))
       ∙ span_append offset lo hi (between from (i + 1) runs) (drop (i + 1) runs)
       ∙ ap (λ xs. in_span offset lo hi (between from (i + 1) runs) ++ xs) (span_above offset lo hi (get_or runs i no_run).«end» 16777216 (drop (i + 1) runs) later (omega arith))
       ∙ append-nil (in_span offset lo hi (between from (i + 1) runs))
 
 -- one run more of a list
 module _ (offset lo hi : ℕ) (rs : List Run) (i : ℕ) (here : i < length rs) where
-  pub span-take-more : in_span offset lo hi (take (i + 1) rs) ≡ in_span offset lo hi (take i rs) ++ spanned offset lo hi (get_or rs i no_run)
-  span-take-more = ap (in_span offset lo hi) (take_more rs i no_run here) ∙ span_append offset lo hi (take i rs) (get_or rs i no_run ∷ []) ∙ ap (λ xs. in_span offset lo hi (take i rs) ++ xs) (append-nil (spanned offset lo hi (get_or rs i no_run)))
+  pub span_take_more : in_span offset lo hi (take (i + 1) rs) ≡ in_span offset lo hi (take i rs) ++ spanned offset lo hi (get_or rs i no_run)
+  span_take_more = ap (in_span offset lo hi) (take_more rs i no_run here) ∙ span_append offset lo hi (take i rs) (get_or rs i no_run ∷ []) ∙ ap (λ xs. in_span offset lo hi (take i rs) ++ xs) (append-nil (spanned offset lo hi (get_or rs i no_run)))
 
-  pub span-take-count : length (in_span offset lo hi (take (i + 1) rs)) ≡ length (in_span offset lo hi (take i rs)) + (span_end offset hi (get_or rs i no_run) - span_start offset lo hi (get_or rs i no_run))
-  span-take-count = ap length span-take-more ∙ length-append (in_span offset lo hi (take i rs)) (spanned offset lo hi (get_or rs i no_run)) ∙ ap (λ n. length (in_span offset lo hi (take i rs)) + n) (length-range_with_len (span_start offset lo hi (get_or rs i no_run)) (span_end offset hi (get_or rs i no_run) - span_start offset lo hi (get_or rs i no_run)))
+  pub span_take_count : length (in_span offset lo hi (take (i + 1) rs)) ≡ length (in_span offset lo hi (take i rs)) + (span_end offset hi (get_or rs i no_run) - span_start offset lo hi (get_or rs i no_run))
+  span_take_count = ap length span_take_more ∙ length-append (in_span offset lo hi (take i rs)) (spanned offset lo hi (get_or rs i no_run)) ∙ ap (λ n. length (in_span offset lo hi (take i rs)) + n) (length-range_with_len (span_start offset lo hi (get_or rs i no_run)) (span_end offset hi (get_or rs i no_run) - span_start offset lo hi (get_or rs i no_run)))
 
 pub span_take_most : (offset lo hi : ℕ) (rs : List Run) (i : ℕ) → length (in_span offset lo hi (take i rs)) ≤ length (in_span offset lo hi rs)
 span_take_most offset lo hi rs i =

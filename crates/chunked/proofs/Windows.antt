@@ -16,7 +16,7 @@ use Rattle.kernels.proofs.Masked.{positions_inside, positions_same}
 use Rattle.settle.specs.Pushes.{moved}
 use Rattle.settle.specs.Bounds.{boundary, kept_between_places}
 use Rattle.settle.proofs.Settled.{at}
-use Rattle.settle.proofs.Bitmaps.{chunk-here, kept_split, kept_within}
+use Rattle.settle.proofs.Bitmaps.{chunk_here, kept_split, kept_within}
 use Rattle.chunked.proofs.Cuts.{Cut, cut_of, part_of}
 
 -- the places of the positions that a test keeps, of a selection of length n at an offset, in three parts by chunk c
@@ -39,36 +39,36 @@ module _ (q : ℕ → Bool) (offset n c : ℕ) (small : offset ≤ 1024) where
     shape : (xs ys zs : List ℕ) → at offset (kept_between_places q 0 n) ≡ xs ++ (ys ++ zs) → length xs ≡ k → length ys ≡ m → Cut (xs ++ (ys ++ zs)) (length xs) (length xs + length ys) c → Cut (at offset (kept_between_places q 0 n)) k (k + m) c
     shape xs ys zs e a b h = subst (λ ps. Cut ps k (k + m) c) (sym e) (subst (λ i. Cut (xs ++ (ys ++ zs)) i (i + m) c) a (subst (λ j. Cut (xs ++ (ys ++ zs)) (length xs) (length xs + j) c) b h))
 
-    pub bitmap-cut : Cut (at offset (kept_between_places q 0 n)) k (k + m) c
-    bitmap-cut =
+    pub bitmap_cut : Cut (at offset (kept_between_places q 0 n)) k (k + m) c
+    bitmap_cut =
         let front = length-map (kept_between_places q 0 (boundary offset n c)) (moved offset) in
         let part = length-map (kept_between_places q (boundary offset n c) (boundary offset n (c + 1))) (moved offset) in
-        shape _ _ _ three (front ∙ sym done) (part ∙ sym count) (cut_of (at offset (kept_between_places q 0 (boundary offset n c))) (at offset (kept_between_places q (boundary offset n c) (boundary offset n (c + 1)))) (at offset (kept_between_places q (boundary offset n (c + 1)) n)) c before (chunk-here q offset n c small) past (omega arith))
+        shape _ _ _ three (front ∙ sym done) (part ∙ sym count) (cut_of (at offset (kept_between_places q 0 (boundary offset n c))) (at offset (kept_between_places q (boundary offset n c) (boundary offset n (c + 1)))) (at offset (kept_between_places q (boundary offset n (c + 1)) n)) c before (chunk_here q offset n c small) past (omega arith))
 
-    pub bitmap-part : between k (k + m) (at offset (kept_between_places q 0 n)) ≡ at offset (kept_between_places q (boundary offset n c) (boundary offset n (c + 1)))
-    bitmap-part =
+    pub bitmap_part : between k (k + m) (at offset (kept_between_places q 0 n)) ≡ at offset (kept_between_places q (boundary offset n c) (boundary offset n (c + 1)))
+    bitmap_part =
         let xs = at offset (kept_between_places q 0 (boundary offset n c)) in
         let ys = at offset (kept_between_places q (boundary offset n c) (boundary offset n (c + 1))) in
         let front : length xs ≡ k = length-map (kept_between_places q 0 (boundary offset n c)) (moved offset) ∙ sym done in
         let part : length ys ≡ m = length-map (kept_between_places q (boundary offset n c) (boundary offset n (c + 1))) (moved offset) ∙ sym count in
-        ap (between k (k + m)) three ∙ ap₂ (λ i j. between i (i + j) (xs ++ (ys ++ at offset (kept_between_places q (boundary offset n (c + 1)) n)))) (sym front) (sym part) ∙ part_of xs ys (at offset (kept_between_places q (boundary offset n (c + 1)) n)) c before (chunk-here q offset n c small) past (omega arith)
+        ap (between k (k + m)) three ∙ ap₂ (λ i j. between i (i + j) (xs ++ (ys ++ at offset (kept_between_places q (boundary offset n (c + 1)) n)))) (sym front) (sym part) ∙ part_of xs ys (at offset (kept_between_places q (boundary offset n (c + 1)) n)) c before (chunk_here q offset n c small) past (omega arith)
 
 pub kept_rises : (q : ℕ → Bool) (n : ℕ) → Rising 0 n (kept_between_places q 0 n)
 kept_rises q n = rising_kept q 0 n (range_with_len 0 (n - 0)) (rising_counting 0 (n - 0) n (omega arith))
 
 -- words that were loaded from a window
 module _ (w : Window) (from n : ℕ) (ws : List ℕ) (enough : n ≤ 64 * length ws) (close : 64 * length ws < n + 64) (inside : from + n ≤ w.len) (loaded : (j : ℕ) → j < length ws → get_or ws j 0 ≡ window_bits w (from + 64 * j) (n - 64 * j)) where
-  word-bit : (i : ℕ) → i < n → words_bit ws i ≡ window_from w from i
+  word_bit_is : (i : ℕ) → i < n → words_bit ws i ≡ window_from w from i
   unfolding window_bits
-  word-bit i h =
+  word_bit_is i h =
       let m : ℕ = i / 64 in
       let size : i % 64 < min (min (n - 64 * m) 64) (w.len - (from + 64 * m)) = omega arith in
       let same : from + 64 * m + i % 64 ≡ from + i = omega arith in
       ap (λ x. bit_of x (i % 64)) (loaded m (omega arith)) ∙ bit_from (window_from w (from + 64 * m)) (min (min (n - 64 * m) 64) (w.len - (from + 64 * m))) (i % 64) size ∙ ap (window_bit w) same
 
-  word-past : (i : ℕ) → n ≤ i → words_bit ws i ≡ false
+  word_past : (i : ℕ) → n ≤ i → words_bit ws i ≡ false
   unfolding window_bits
-  word-past i h = ⊎_elim there gone (cases_lt (i / 64) (length ws))
+  word_past i h = ⊎_elim there gone (cases_lt (i / 64) (length ws))
     where
       there : i / 64 < length ws → words_bit ws i ≡ false
       there l =
@@ -78,11 +78,11 @@ module _ (w : Window) (from n : ℕ) (ws : List ℕ) (enough : n ≤ 64 * length
       gone : length ws ≤ i / 64 → words_bit ws i ≡ false
       gone l = ap (λ x. bit_of x (i % 64)) (get_or_past ws (i / 64) 0 l) ∙ bit_above 0 0 (i % 64) (omega arith) (omega arith)
 
-  pub loaded-covers : Covers ws n
-  loaded-covers = record { enough = enough; close = close; clear = word-past }
+  pub loaded_covers : Covers ws n
+  loaded_covers = record { enough = enough; close = close; clear = word_past }
 
-  pub loaded-picks : mask_positions ws n ≡ filter (window_from w from) (range_with_len 0 n)
-  loaded-picks = positions_same ws (window_from w from) n word-bit
+  pub loaded_picks : mask_positions ws n ≡ filter (window_from w from) (range_with_len 0 n)
+  loaded_picks = positions_same ws (window_from w from) n word_bit_is
 
 -- positions from one on, counted from there
 pub kept_from : (q : ℕ → Bool) (offset a b base : ℕ) → base ≡ offset + a → map (moved base) (filter (λ j. q (a + j)) (range_with_len 0 (b - a))) ≡ at offset (kept_between_places q a b)

@@ -1,4 +1,6 @@
 //! Picks readings from a source, chunk by chunk, at a price settled before anything is fetched.
+#![tactic(auto)]
+
 mod filters;
 mod serve;
 

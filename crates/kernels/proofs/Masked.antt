@@ -173,9 +173,9 @@ pub window_selected : (w : Window) → selected_by (Framed w) ≡ filter (window
 unfolding selected_by
 window_selected w = kept_same (mask_bit (Framed w)) (window_bit w) (range_with_len 0 w.len) (All-weaker (λ i. (0 ≤ i) × (i < w.len)) (λ i. mask_bit (Framed w) i ≡ window_bit w i) (λ i l. within i l.1) (range_with_len 0 w.len) (rising_all 0 w.len (range_with_len 0 w.len) (rising_counting 0 w.len w.len (omega arith))))
   where
-    and-true : (b : Bool) → (b && true) ≡ b
-    and-true true = refl
-    and-true false = refl
+    and_true : (b : Bool) → (b && true) ≡ b
+    and_true true = refl
+    and_true false = refl
 
     within : (i : ℕ) → i < w.len → (window_bit w i && ltb i w.len) ≡ window_bit w i
-    within i l = ap (λ b. window_bit w i && b) (lt-ltb i w.len l) ∙ and-true (window_bit w i)
+    within i l = ap (λ b. window_bit w i && b) (lt-ltb i w.len l) ∙ and_true (window_bit w i)

@@ -1,4 +1,6 @@
 //! What moves elements.
+#![tactic(auto)]
+
 mod buffer;
 mod byte_compress;
 mod elements;

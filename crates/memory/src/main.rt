@@ -2,6 +2,8 @@
 //!
 //! The log has a reading for each second: the door signal of a lift. A cable was pulled for a
 //! while, so the signal drops out, and comes back when the cable is in place again.
+#![tactic(auto)]
+
 use kernels::Event;
 use selection::{Refusal, Run, Selection, Window, contiguous_filter_range};
 use slices::{filter_bitbuffer_by_mask, filter_slice, filter_slice_in_place};

@@ -3,6 +3,8 @@
 //!
 //! The log has a reading for each second: the door signal of a lift. A cable was pulled for a
 //! while, so the signal drops out, and comes back when the cable is in place again.
+#![tactic(auto)]
+
 use anyhow::anyhow;
 use chunked::{ChunkedFilter, Push, Receipt};
 use kernels::Event;

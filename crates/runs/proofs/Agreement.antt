@@ -10,8 +10,8 @@ use Rattle.settle.specs.Pushes.{Answer, answer, declined, misformed, moved, plac
 use Rattle.chunked.specs.Served.{State, next, served, terms_of}
 use Rattle.runs.specs.Runs.{after, answers, heard, well_formed}
 use Rattle.runs.specs.Laws.{Agreement, SamePick, formed_ones}
-use Rattle.chunked.proofs.Accepted.{refused-next}
-use Rattle.runs.proofs.Steps.{Sound, next-scratch, takes}
+use Rattle.chunked.proofs.Accepted.{refused_next}
+use Rattle.runs.proofs.Steps.{Sound, next_scratch, takes}
 use Rattle.runs.proofs.Balance.{adds_one, balance, fresh_sound}
 
 -- a push that is not well formed changes nothing
@@ -25,7 +25,7 @@ next_misformed L s p = go (misformed (length s.scratch) p)
 
 after_scratch : {T : Type 0} (L : ℕ) (s : State T) (ps : List Push) → length (after L s ps).scratch ≡ length s.scratch
 after_scratch L s [] = refl
-after_scratch L s (p ∷ ps) = after_scratch L (next L s p) ps ∙ next-scratch L s p
+after_scratch L s (p ∷ ps) = after_scratch L (next L s p) ps ∙ next_scratch L s p
 
 -- what the well formed ones of some pushes leave and answer alone
 record Alone {T : Type 0} (L n : ℕ) (s : State T) (ps qs : List Push) : Type 0 where
@@ -41,7 +41,7 @@ only_formed {T} L n s (p ∷ ps) r = go (well_formed n p) refl (λ t e. only_for
 
     go : (b : Bool) → well_formed n p ≡ b → ((t : State T) → length t.scratch ≡ n → Alone L n t ps others) → Alone L n s (p ∷ ps) (cond b (p ∷ others) others)
     go true e rest =
-        let h = rest (next L s p) (next-scratch L s p ∙ r) in
+        let h = rest (next L s p) (next_scratch L s p ∙ r) in
         record { last = h.last; told = rw e (ap (λ as'. answer (terms_of L s) p ∷ as') h.told) }
     go false e rest =
         let same : next L s p ≡ s = next_misformed L s p (rw r e) in
@@ -61,15 +61,15 @@ unfolding places
 same_places p q h = ap₂ (λ (o : ℕ) (is : List ℕ). map (moved o) is) h.0 h.1
 
 module _ {T : Type 0} (L : ℕ) (s t : State T) (p q : Push) (h : Twins s t) (same : SamePick p q) where
-  twins-answer : misformed (length s.scratch) p ≡ None → misformed (length t.scratch) q ≡ None → answer (terms_of L s) p ≡ answer (terms_of L t) q
+  twins_answer : misformed (length s.scratch) p ≡ None → misformed (length t.scratch) q ≡ None → answer (terms_of L s) p ≡ answer (terms_of L t) q
   unfolding answer declined
-  twins-answer e f = let ps = same_places p q same in cc
+  twins_answer e f = let ps = same_places p q same in cc
 
-  twins-next : L + 1 ≤ 1024 → Sound s → Sound t → answer (terms_of L s) p ≡ answer (terms_of L t) q → Twins (next L s p) (next L t q)
-  twins-next small ok ok' e = go (answer (terms_of L s) p) refl
+  twins_next : L + 1 ≤ 1024 → Sound s → Sound t → answer (terms_of L s) p ≡ answer (terms_of L t) q → Twins (next L s p) (next L t q)
+  twins_next small ok ok' e = go (answer (terms_of L s) p) refl
     where
       go : (a : Answer) → answer (terms_of L s) p ≡ a → Twins (next L s p) (next L t q)
-      go (Err x) a = rw (← refused-next L s p x a, ← refused-next L t q x (sym e ∙ a)) h
+      go (Err x) a = rw (← refused_next L s p x a, ← refused_next L t q x (sym e ∙ a)) h
       go (Ok r) a =
           let k = takes L s p r small ok a in
           let k' = takes L t q r small ok' (sym e ∙ a) in
@@ -87,8 +87,8 @@ module _ {T : Type 0} (L m n : ℕ) (small : L + 1 ≤ 1024) where
   matched s t [] (q ∷ qs) r r' ok ok' h f f' e = absurd e
   matched s t (p ∷ ps) [] r r' ok ok' h f f' e = absurd e
   matched s t (p ∷ ps) (q ∷ qs) r r' ok ok' h f f' e =
-      let here = twins-answer L s t p q h e.0 (rw r f.0) (rw r' f'.0) in
-      let rest = matched (next L s p) (next L t q) ps qs (next-scratch L s p ∙ r) (next-scratch L t q ∙ r') (adds_one L small s p ok).sound (adds_one L small t q ok').sound (twins-next L s t p q h e.0 small ok ok' here) f.1 f'.1 e.1 in
+      let here = twins_answer L s t p q h e.0 (rw r f.0) (rw r' f'.0) in
+      let rest = matched (next L s p) (next L t q) ps qs (next_scratch L s p ∙ r) (next_scratch L t q ∙ r') (adds_one L small s p ok).sound (adds_one L small t q ok').sound (twins_next L s t p q h e.0 small ok ok' here) f.1 f'.1 e.1 in
       record { told = ap₂ (λ (a : Answer) (as' : List Answer). a ∷ as') here rest.told; last = rest.last }
 
 formed_each : (n : ℕ) (ps : List Push) → All (λ p. misformed n p ≡ None) (filter (well_formed n) ps)

@@ -7,7 +7,7 @@ use Rattle.settle.specs.Pushes.{Answer, answer}
 use Rattle.chunked.specs.Served.{State, next, terms_of}
 use Rattle.runs.specs.Runs.{after, answers, fees_paid, tally, values_written}
 use Rattle.runs.specs.Laws.{Balance, Fresh}
-use Rattle.chunked.proofs.Accepted.{refused-next}
+use Rattle.chunked.proofs.Accepted.{refused_next}
 use Rattle.runs.proofs.Steps.{Sound, takes}
 
 -- what pushes with such answers add, from s to t
@@ -40,7 +40,7 @@ module _ {T : Type 0} (L : ℕ) (small : L + 1 ≤ 1024) where
   adds_one s p ok = go (answer (terms_of L s) p) refl
     where
       go : (a : Answer) → answer (terms_of L s) p ≡ a → Adds L s (next L s p) (a ∷ [])
-      go (Err e) h = subst (λ t. Adds L s t (Err e ∷ [])) (refused-next L s p e h) (adds_none L s (Err e ∷ []) refl refl ok)
+      go (Err e) h = subst (λ t. Adds L s t (Err e ∷ [])) (refused_next L s p e h) (adds_none L s (Err e ∷ []) refl refl ok)
       go (Ok r) h =
           let k = takes L s p r small ok h in
           let e : r.fee + 0 ≡ r.fee = omega arith in

@@ -29,16 +29,16 @@ sum_chunks n (p ∷ ps) h =
     omega arith
 
 module _ (L chunks lo hi : ℕ) (ps : List ℕ) (up : Rising lo hi ps) (inside : All (λ p. p / 1024 < chunks) ps) where
-  pub fee-low : length ps ≤ fee_of L chunks ps
+  pub fee_low : length ps ≤ fee_of L chunks ps
   unfolding fee_of
-  fee-low =
+  fee_low =
       let all = sum_chunks chunks ps inside in
       let each = sum_le (chunk_count ps) (price_of_chunk L ps) chunks (λ c _. price_low L (chunk_count ps c) (chunk_most lo hi ps up c)) in
       omega arith
 
-  pub fee-high : L + 1 ≤ 1024 → (L + 1) * fee_of L chunks ps ≤ 1024 * length ps
+  pub fee_high : L + 1 ≤ 1024 → (L + 1) * fee_of L chunks ps ≤ 1024 * length ps
   unfolding fee_of
-  fee-high small =
+  fee_high small =
       let all = sum_chunks chunks ps inside in
       let each = sum_scaled (L + 1) 1024 (price_of_chunk L ps) (chunk_count ps) chunks (λ c _. price_high L (chunk_count ps c) small) in
       omega arith

@@ -33,8 +33,8 @@ pub upto_none : {T : Type 0} (L : ℕ) (ps : List Push) (s : State T) (noted : L
 upto_none L ps s noted long = record { within = omega arith; long = long; state = refl; told = refl }
 
 module _ {T : Type 0} (L : ℕ) (ps : List Push) (s t : State T) (noted : List Answer) (i : ℕ) (h : Upto L ps s t noted i) where
-  pub upto-more : (u : State T) (a : Answer) (d : Push) → i < length ps → a ≡ answer (terms_of L t) (get_or ps i d) → u ≡ next L t (get_or ps i d) → Upto L ps s u (set noted i a) (i + 1)
-  upto-more u a d l e f =
+  pub upto_more : (u : State T) (a : Answer) (d : Push) → i < length ps → a ≡ answer (terms_of L t) (get_or ps i d) → u ≡ next L t (get_or ps i d) → Upto L ps s u (set noted i a) (i + 1)
+  upto_more u a d l e f =
       let p = get_or ps i d in
       let there = h.state in
       let long = h.long in
@@ -61,8 +61,8 @@ answers_long L s [] = refl
 answers_long L s (p ∷ ps) = ap suc (answers_long L (next L s p) ps)
 
 module _ {T : Type 0} (L : ℕ) (ps : List Push) (s : State T) (before : List Answer) where
-  pub ran-not : (t : State T) (noted : List Answer) (made : Result Unit Refusal) → length before < length ps → t ≡ s → noted ≡ before → made ≡ Err Output → Ran L ps s t before noted made
-  ran-not t noted made l there kept told =
+  pub ran_not : (t : State T) (noted : List Answer) (made : Result Unit Refusal) → length before < length ps → t ≡ s → noted ≡ before → made ≡ Err Output → Ran L ps s t before noted made
+  ran_not t noted made l there kept told =
       let b : notes_fault (length before) (length ps) ≡ Some Output = ap (λ x. when x Output) (lt-ltb (length before) (length ps) l) in
       record {
         told = told ∙ sym (ap (λ o. answered o tt) b);
@@ -81,16 +81,16 @@ module _ {T : Type 0} (L : ℕ) (ps : List Push) (s : State T) (before : List An
       }
 
   -- with notes enough, the whole list is carried out and noted
-  pub ran-all : (t : State T) (noted : List Answer) (made : Result Unit Refusal) → Ran L ps s t before noted made → notes_fault (length before) (length ps) ≡ None → (after L s ps ≡ t) × (answers L s ps ≡ take (length ps) noted)
-  ran-all t noted made r none =
+  pub ran_all : (t : State T) (noted : List Answer) (made : Result Unit Refusal) → Ran L ps s t before noted made → notes_fault (length before) (length ps) ≡ None → (after L s ps ≡ t) × (answers L s ps ≡ take (length ps) noted)
+  ran_all t noted made r none =
       let there = r.ended ∙ ap (λ o. settled o s (after L s ps)) none in
       let told = r.noted ∙ ap (λ o. settled o before (splice before 0 (answers L s ps))) none in
       let first = ap₂ (λ (n : ℕ) (as' : List Answer). take n as') (let e : length ps ≡ 0 + length ps = omega arith in e) told ∙ take_splice before 0 (length ps) (answers L s ps) (omega arith) (answers_long L s ps) in
       (sym there, sym first)
 
-  pub ran-balanced : (t : State T) (noted : List Answer) (made : Result Unit Refusal) → Ran L ps s t before noted made → Balanced L s (after L s ps) (answers L s ps) → notes_fault (length before) (length ps) ≡ None → Balanced L s t (take (length ps) noted)
-  ran-balanced t noted made r h none =
-      let all = ran-all t noted made r none in
+  pub ran_balanced : (t : State T) (noted : List Answer) (made : Result Unit Refusal) → Ran L ps s t before noted made → Balanced L s (after L s ps) (answers L s ps) → notes_fault (length before) (length ps) ≡ None → Balanced L s t (take (length ps) noted)
+  ran_balanced t noted made r h none =
+      let all = ran_all t noted made r none in
       subst (λ u. Balanced L s u (take (length ps) noted)) all.0 (subst (Balanced L s (after L s ps)) all.1 h)
 
 pub agree_by : {T : Type 0} {s s' t t' : State T} {ps qs : List Push} {as' as'' bs bs' : List Answer} → s ≡ s' → t ≡ t' → as' ≡ as'' → bs ≡ bs' → Agree s t ps qs as' bs → Agree s' t' ps qs as'' bs'

@@ -12,9 +12,9 @@ use Rattle.settle.specs.Prices.{fee_of}
 use Rattle.settle.specs.Pushes.{Answer, answer, places}
 use Rattle.chunked.specs.Served.{State, last_compacted, next, served, serving, terms_of}
 use Rattle.settle.proofs.Settled.{roomy}
-use Rattle.chunked.proofs.Accepted.{accepted, refused-next}
+use Rattle.chunked.proofs.Accepted.{accepted, refused_next}
 use Rattle.chunked.proofs.Serving.{granted, length_overlaid, places_inside}
-use Rattle.runs.proofs.Fees.{fee-high, fee-low}
+use Rattle.runs.proofs.Fees.{fee_high, fee_low}
 
 -- places ascend
 pub places_rise : (p : Push) → Rising (p.offset + 0) (p.offset + extent p.selection) (places p)
@@ -44,12 +44,12 @@ pub record Takes {T : Type 0} (L : ℕ) (s t : State T) (ps : List ℕ) (r : Rec
 
 module _ {T : Type 0} (L : ℕ) (s : State T) (p : Push) where
   -- scratch keeps its length
-  pub next-scratch : length (next L s p).scratch ≡ length s.scratch
+  pub next_scratch : length (next L s p).scratch ≡ length s.scratch
   unfolding served serving
-  next-scratch = go (answer (terms_of L s) p) refl
+  next_scratch = go (answer (terms_of L s) p) refl
     where
       go : (a : Answer) → answer (terms_of L s) p ≡ a → length (next L s p).scratch ≡ length s.scratch
-      go (Err e) h = ap (λ t. length t.scratch) (sym (refused-next L s p e h))
+      go (Err e) h = ap (λ t. length t.scratch) (sym (refused_next L s p e h))
       go (Ok r) h =
           let ok = accepted L s p r h in
           ap (λ t. length t.scratch) ok.after
@@ -66,8 +66,8 @@ module _ {T : Type 0} (L : ℕ) (s : State T) (p : Push) where
       let gives = ok.gives in
       let count : r.count ≡ length ps = ap (λ q. q.count) gives in
       let fee : r.fee ≡ fee_of L n ps = ap (λ q. q.fee) gives in
-      let low = fee-low L n _ _ ps (places_rise p) g.inside in
-      let high = fee-high L n _ _ ps (places_rise p) g.inside small in
+      let low = fee_low L n _ _ ps (places_rise p) g.inside in
+      let high = fee_high L n _ _ ps (places_rise p) g.inside small in
       let values = length_gather s.readings ps (places_inside s.readings ps sound.whole g.inside) in
       let pay = g.payable in
       let fit = g.fits in

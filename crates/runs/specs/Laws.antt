@@ -18,7 +18,7 @@ pub record Fresh {T : Type 0} (s : State T) : Type 0 where
   pub small : s.allowance < 2 ^ 64
   pub room : length s.output < 2 ^ 64
   pub none_written : s.written ≡ 0
-  pub none-paid : s.fees ≡ 0
+  pub none_paid : s.fees ≡ 0
 
 -- a list of pushes took s to t, and its answers are noted: all of it, or nothing with too few notes
 pub record Ran {T : Type 0} (L : ℕ) (ps : List Push) (s t : State T) (before now' : List Answer) (made : Result Unit Refusal) : Type 0 where

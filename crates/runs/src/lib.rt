@@ -1,4 +1,6 @@
 //! Runs of pushes, and what holds of them.
+#![tactic(auto)]
+
 mod runs;
 
 pub use runs::{Ended, run_both, run_pushes};

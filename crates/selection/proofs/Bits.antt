@@ -119,25 +119,25 @@ pub from_cut : (f : ℕ → Bool) (m n : ℕ) → number_of_bits (λ j. f j && l
 from_cut f m zero = let none : 0 ≡ min m 0 = omega arith in ap (number_of_bits f) none
 from_cut f m (suc n) = ⊎_elim (within (from_cut f m n)) (past (from_cut f m n)) (cases_lt n m)
   where
-    and-true : (b : Bool) → (b && true) ≡ b
-    and-true true = refl
-    and-true false = refl
+    and_true : (b : Bool) → (b && true) ≡ b
+    and_true true = refl
+    and_true false = refl
 
-    and-false : (b : Bool) → (b && false) ≡ false
-    and-false true = refl
-    and-false false = refl
+    and_false : (b : Bool) → (b && false) ≡ false
+    and_false true = refl
+    and_false false = refl
 
     within : number_of_bits (λ j. f j && ltb j m) n ≡ number_of_bits f (min m n) → n < m → number_of_bits (λ j. f j && ltb j m) (suc n) ≡ number_of_bits f (min m (suc n))
     within rest l =
         let less : min m n ≡ n = omega arith in
         let more : min m (suc n) ≡ suc n = omega arith in
-        let test : (f n && ltb n m) ≡ f n = ap (λ b. f n && b) (lt-ltb n m l) ∙ and-true (f n) in
+        let test : (f n && ltb n m) ≡ f n = ap (λ b. f n && b) (lt-ltb n m l) ∙ and_true (f n) in
         ap₂ (λ a b. a + cond b (2 ^ n) 0) (rest ∙ ap (number_of_bits f) less) test ∙ ap (number_of_bits f) (sym more)
 
     past : number_of_bits (λ j. f j && ltb j m) n ≡ number_of_bits f (min m n) → m ≤ n → number_of_bits (λ j. f j && ltb j m) (suc n) ≡ number_of_bits f (min m (suc n))
     past rest l =
         let less : min m n ≡ min m (suc n) = omega arith in
-        let test : (f n && ltb n m) ≡ false = ap (λ b. f n && b) (le-ltb n m l) ∙ and-false (f n) in
+        let test : (f n && ltb n m) ≡ false = ap (λ b. f n && b) (le-ltb n m l) ∙ and_false (f n) in
         ap₂ (λ a b. a + cond b (2 ^ n) 0) (rest ∙ ap (number_of_bits f) less) test ∙ add-zero _
 
 -- how many of the first n bits are set

@@ -85,21 +85,21 @@ bits_none bytes s = refl
 
 -- the places from k on have been gathered, of n
 module _ (bytes : List ℕ) (at n k all : ℕ) (so_far : all ≡ num_of (drop (at + k) bytes) % 2 ^ (8 * (n - k))) where
-  pub gather-room : n ≤ 8 → 0 < k → all * 256 + 255 < 2 ^ 64
-  gather-room h l =
+  pub gather_room : n ≤ 8 → 0 < k → all * 256 + 255 < 2 ^ 64
+  gather_room h l =
       let less : all < 2 ^ (8 * (n - k)) = rw so_far (mod_below (num_of (drop (at + k) bytes)) (2 ^ (8 * (n - k))) (pow_pos (8 * (n - k)))) in
       let most : all < 2 ^ 56 = lt_of_lt_of_le less (pow_mono {j = 56} (omega arith)) in
       omega arith
 
-  pub gather-more : 0 < k → k ≤ n → get_or bytes (at + (k - 1)) 0 < 256 → all * 256 + get_or bytes (at + (k - 1)) 0 ≡ num_of (drop (at + (k - 1)) bytes) % 2 ^ (8 * (n - (k - 1)))
-  gather-more l m h =
+  pub gather_more : 0 < k → k ≤ n → get_or bytes (at + (k - 1)) 0 < 256 → all * 256 + get_or bytes (at + (k - 1)) 0 ≡ num_of (drop (at + (k - 1)) bytes) % 2 ^ (8 * (n - (k - 1)))
+  gather_more l m h =
       let next : at + (k - 1) + 1 ≡ at + k = omega arith in
       let size : n - k + 1 ≡ n - (k - 1) = omega arith in
       let step = part_step bytes (at + (k - 1)) (n - k) h in
       ap (λ x. x * 256 + get_or bytes (at + (k - 1)) 0) (so_far ∙ ap (λ i. num_of (drop i bytes) % 2 ^ (8 * (n - k))) (sym next)) ∙ sym step ∙ ap (λ m. num_of (drop (at + (k - 1)) bytes) % 2 ^ (8 * m)) size
 
-  pub gather-all : k ≤ 0 → all ≡ bits_from bytes (8 * at) (8 * n)
-  gather-all l =
+  pub gather_all : k ≤ 0 → all ≡ bits_from bytes (8 * at) (8 * n)
+  gather_all l =
       let first : at + k ≡ at = omega arith in
       let size : n - k ≡ n = omega arith in
       so_far ∙ ap₂ (λ i m. num_of (drop i bytes) % 2 ^ (8 * m)) first size ∙ sym (part_num bytes at (8 * n))
@@ -113,11 +113,11 @@ cut_num x s n m h =
 
 -- bits of the bytes that hold them: size bytes from byte at on, eight in lo and the ninth in hi
 module _ (bytes : List ℕ) (at size lo hi : ℕ) (is-lo : lo ≡ bits_from bytes (8 * at) (8 * min size 8)) (is-hi : hi ≡ bits_from bytes (8 * at + 64) (8 * (size - 8))) where
-  pub ninth-lt : size ≤ 9 → hi < 256
-  ninth-lt h = lt_of_lt_of_le {m = 2 ^ (8 * (size - 8))} (rw is-hi (bits_lt bytes (8 * at + 64) (8 * (size - 8)))) (pow_mono {j = 8} (omega arith))
+  pub ninth_lt : size ≤ 9 → hi < 256
+  ninth_lt h = lt_of_lt_of_le {m = 2 ^ (8 * (size - 8))} (rw is-hi (bits_lt bytes (8 * at + 64) (8 * (size - 8)))) (pow_mono {j = 8} (omega arith))
 
-  all-bytes : hi * 2 ^ 64 + lo ≡ num_of (drop at bytes) % 2 ^ (8 * size)
-  all-bytes = ⊎_elim nine fewer (cases_lt 8 size)
+  all_bytes : hi * 2 ^ 64 + lo ≡ num_of (drop at bytes) % 2 ^ (8 * size)
+  all_bytes = ⊎_elim nine fewer (cases_lt 8 size)
     where
       x : ℕ
       x = num_of (drop at bytes)
@@ -141,13 +141,13 @@ module _ (bytes : List ℕ) (at size lo hi : ℕ) (is-lo : lo ≡ bits_from byte
           let u : hi ≡ x / 2 ^ 64 % 1 = is-hi ∙ ap (bits_from bytes (8 * at + 64)) b ∙ high_part 0 in
           omega arith
 
-  pub field-num : (s n : ℕ) → n ≤ 64 → (s + n ≤ 8 * size) ⊎ (length bytes - at ≤ size) → (hi * 2 ^ 64 + lo) / 2 ^ s % 2 ^ 64 % 2 ^ n ≡ bits_from bytes (8 * at + s) n
-  field-num s n h enough =
+  pub field_num : (s n : ℕ) → n ≤ 64 → (s + n ≤ 8 * size) ⊎ (length bytes - at ≤ size) → (hi * 2 ^ 64 + lo) / 2 ^ s % 2 ^ 64 % 2 ^ n ≡ bits_from bytes (8 * at + s) n
+  field_num s n h enough =
       let room : 64 ≡ 64 - n + n = omega arith in
       let y = (hi * 2 ^ 64 + lo) / 2 ^ s in
       let narrow : y % 2 ^ 64 % 2 ^ n ≡ y % 2 ^ n = ap (λ t. y % 2 ^ t % 2 ^ n) room ∙ mod-mod-pow y (64 - n) n in
       let here : num_of bytes / 2 ^ (8 * at + s) ≡ num_of (drop at bytes) / 2 ^ s = sym (shr-shr (num_of bytes) (8 * at) s) ∙ ap (λ x. x / 2 ^ s) (num_drop bytes at) in
-      narrow ∙ ap (λ x. x / 2 ^ s % 2 ^ n) all-bytes ∙ ⊎_elim (cut_num (num_of (drop at bytes)) s n (8 * size)) past enough ∙ sym (bits_num bytes (8 * at + s) n ∙ ap (λ x. x % 2 ^ n) here)
+      narrow ∙ ap (λ x. x / 2 ^ s % 2 ^ n) all_bytes ∙ ⊎_elim (cut_num (num_of (drop at bytes)) s n (8 * size)) past enough ∙ sym (bits_num bytes (8 * at + s) n ∙ ap (λ x. x % 2 ^ n) here)
     where
       past : length bytes - at ≤ size → num_of (drop at bytes) % 2 ^ (8 * size) / 2 ^ s % 2 ^ n ≡ num_of (drop at bytes) / 2 ^ s % 2 ^ n
       past l =
@@ -165,7 +165,7 @@ eight_num bytes at size lo s n is-lo few h =
     let enough : (s + n ≤ 8 * size) ⊎ (length bytes - at ≤ size) = elim (cases_lt (length bytes - at) 8) [ inl l ↦ inr (omega arith) | inr l ↦ inl (omega arith) ] in
     sym (ap (λ t. lo / 2 ^ s % 2 ^ t % 2 ^ n) room ∙ mod-mod-pow (lo / 2 ^ s) (64 - n) n)
     ∙ ap (λ x. x / 2 ^ s % 2 ^ 64 % 2 ^ n) (sym lone)
-    ∙ field-num bytes at size lo 0 is-lo is-hi s n (omega arith) enough
+    ∙ field_num bytes at size lo 0 is-lo is-hi s n (omega arith) enough
 
 -- the bits of word k of a window, as bits of its bytes
 pub word_bits : (w : Window) (k : ℕ) → bits_from w.bytes.now (w.start + 64 * k) (min (w.len - 64 * k) 64) ≡ word_of w k

@@ -41,14 +41,14 @@ module _ {Y : Type 0} (f : ℕ → Option Y) (k n : ℕ) (passed : first f (rang
   step : k < n → first f (range_with_len 0 n) ≡ or_else (f k) (first f (range_with_len (k + 1) (n - (k + 1))))
   step l = let more : n - k ≡ suc (n - (k + 1)) = omega arith in sym passed ∙ ap (λ m. first f (range_with_len k m)) more
 
-  pub count-stands : (e : Y) → k < n → f k ≡ Some e → first f (range_with_len 0 n) ≡ Some e
-  count-stands e l s = step l ∙ ap (λ o. or_else o (first f (range_with_len (k + 1) (n - (k + 1))))) s
+  pub count_stands : (e : Y) → k < n → f k ≡ Some e → first f (range_with_len 0 n) ≡ Some e
+  count_stands e l s = step l ∙ ap (λ o. or_else o (first f (range_with_len (k + 1) (n - (k + 1))))) s
 
-  pub count-passes : k < n → f k ≡ None → first f (range_with_len (k + 1) (n - (k + 1))) ≡ first f (range_with_len 0 n)
-  count-passes l s = sym (step l ∙ ap (λ o. or_else o (first f (range_with_len (k + 1) (n - (k + 1))))) s)
+  pub count_passes : k < n → f k ≡ None → first f (range_with_len (k + 1) (n - (k + 1))) ≡ first f (range_with_len 0 n)
+  count_passes l s = sym (step l ∙ ap (λ o. or_else o (first f (range_with_len (k + 1) (n - (k + 1))))) s)
 
-  pub count-ends : n ≤ k → first f (range_with_len 0 n) ≡ None
-  count-ends l = let none : n - k ≡ 0 = omega arith in sym passed ∙ ap (λ m. first f (range_with_len k m)) none
+  pub count_ends : n ≤ k → first f (range_with_len 0 n) ≡ None
+  count_ends l = let none : n - k ≡ 0 = omega arith in sym passed ∙ ap (λ m. first f (range_with_len k m)) none
 
 -- a list that is not too long is refused for its items alone
 pub not_long : {X : Type 0} (n : ℕ) (o p : Option Refusal) (x : X) → long n ≡ None → o ≡ p → answered p x ≡ answered (first_of (long n ∷ o ∷ [])) x

@@ -74,15 +74,15 @@ among_kept q (suc n) a k h l m = ⊎_elim here (later (among_kept q n (a + 1) k 
     here : a ≡ k → among k (filter q (range_with_len a (suc n))) ≡ true
     here e = let yes' : q a ≡ true = ap q e ∙ h in let t : eqb a k ≡ true = eq-eqb a k e in rw (yes', t) refl
 
-    or-true : (b : Bool) → (b || true) ≡ true
-    or-true true = refl
-    or-true false = refl
+    or_true : (b : Bool) → (b || true) ≡ true
+    or_true true = refl
+    or_true false = refl
 
     later : (a + 1 ≤ k → k < a + 1 + n → among k (filter q (range_with_len (a + 1) n)) ≡ true) → (a ≡ k → ⊥) → among k (filter q (range_with_len a (suc n))) ≡ true
     later rest e = go (q a) (rest (omega arith) (omega arith))
       where
         go : (b : Bool) → among k (filter q (range_with_len (a + 1) n)) ≡ true → among k (cond b (a ∷ filter q (range_with_len (a + 1) n)) (filter q (range_with_len (a + 1) n))) ≡ true
-        go true r = rw r (or-true (eqb a k))
+        go true r = rw r (or_true (eqb a k))
         go false r = r
 
 among_within : (a n k : ℕ) → among k (range_with_len a n) ≡ true → (a ≤ k) × (k < a + n)
@@ -246,8 +246,8 @@ module _ (q : ℕ → Bool) (m n c a b w : ℕ) (h : Ended q m c a b) (few : n �
   bits : (j : ℕ) → j < n → q (m + j) ≡ bit_of w j
   bits j l = sym (bit_from (λ j. q (m + j)) n j l) ∙ ap (λ x. bit_of x j) (sym is)
 
-  set-within : (j : ℕ) → bit_of w j ≡ true → j < n
-  set-within j e = ⊎_elim (λ l. l) (λ l. absurd (let f = bit_above w n j small l in let o : ◌≡◌ {A = ℕ} 0 1 = cc in omega arith)) (cases_lt j n)
+  set_within : (j : ℕ) → bit_of w j ≡ true → j < n
+  set_within j e = ⊎_elim (λ l. l) (λ l. absurd (let f = bit_above w n j small l in let o : ◌≡◌ {A = ℕ} 0 1 = cc in omega arith)) (cases_lt j n)
 
   clear_within : (j : ℕ) → m ≤ j → j < m + n → bit_of w (j - m) ≡ false → q j ≡ false
   clear_within j l k e = let at : m + (j - m) ≡ j = omega arith in ap q (sym at) ∙ bits (j - m) (omega arith) ∙ e
@@ -258,22 +258,22 @@ module _ (q : ℕ → Bool) (m n c a b w : ℕ) (h : Ended q m c a b) (few : n �
   abbrev high : ℕ
   high = 64 - count_leading_zeros 64 w
 
-  low-is : (bit_of w low ≡ true) × ((j : ℕ) → j < low → bit_of w j ≡ false)
-  low-is = trailing_bit 64 w some whole
+  low_is : (bit_of w low ≡ true) × ((j : ℕ) → j < low → bit_of w j ≡ false)
+  low_is = trailing_bit 64 w some whole
 
   high_is : (count_leading_zeros 64 w < 64) × (bit_of w (63 - count_leading_zeros 64 w) ≡ true) × ((j : ℕ) → 64 - count_leading_zeros 64 w ≤ j → bit_of w j ≡ false)
   high_is = leading_bit w some whole
 
-  low-high : low < high
-  low-high = ⊎_elim (λ l. l) (λ l. absurd (let f = high_is.2 low l in let g = low-is.0 in let o : ◌≡◌ {A = ℕ} 0 1 = cc in omega arith)) (cases_lt low high)
+  low_high : low < high
+  low_high = ⊎_elim (λ l. l) (λ l. absurd (let f = high_is.2 low l in let g = low_is.0 in let o : ◌≡◌ {A = ℕ} 0 1 = cc in omega arith)) (cases_lt low high)
 
-  high-in : high ≤ n
-  high-in = let k = set-within (63 - count_leading_zeros 64 w) high_is.1 in let z = high_is.0 in omega arith
+  high_in : high ≤ n
+  high_in = let k = set_within (63 - count_leading_zeros 64 w) high_is.1 in let z = high_is.0 in omega arith
 
   ends_with : (from : ℕ) → from < m + high → q from ≡ true → ((j : ℕ) → j < from → q j ≡ false) → EndsIn q (m + n) from (m + high)
   ends_with from l f g = record {
     order = l;
-    inside = omega (arith, high-in);
+    inside = omega (arith, high_in);
     first = f;
     last = last';
     below = g;
@@ -284,10 +284,10 @@ module _ (q : ℕ → Bool) (m n c a b w : ℕ) (h : Ended q m c a b) (few : n �
       last' =
           let z = high_is.0 in
           let at : m + high - 1 ≡ m + (63 - count_leading_zeros 64 w) = omega arith in
-          ap q at ∙ bits (63 - count_leading_zeros 64 w) (set-within (63 - count_leading_zeros 64 w) high_is.1) ∙ high_is.1
+          ap q at ∙ bits (63 - count_leading_zeros 64 w) (set_within (63 - count_leading_zeros 64 w) high_is.1) ∙ high_is.1
 
-  pub ended-word : Ended q (m + n) (c + ones w) (cond (eqb c 0) (m + count_trailing_zeros 64 w) a) (m + (64 - count_leading_zeros 64 w))
-  ended-word = ⊎_elim fresh more (cases_eq c 0)
+  pub ended_word : Ended q (m + n) (c + ones w) (cond (eqb c 0) (m + count_trailing_zeros 64 w) a) (m + (64 - count_leading_zeros 64 w))
+  ended_word = ⊎_elim fresh more (cases_eq c 0)
     where
       count : c + ones w ≡ tally q (m + n)
       count = ap₂ (λ x y. x + y) h.counted (ap ones is ∙ ones_from (λ j. q (m + j)) n) ∙ sym (tally_split q m n)
@@ -295,10 +295,10 @@ module _ (q : ℕ → Bool) (m n c a b w : ℕ) (h : Ended q m c a b) (few : n �
       fresh : c ≡ 0 → Ended q (m + n) (c + ones w) (cond (eqb c 0) (m + count_trailing_zeros 64 w) a) (m + (64 - count_leading_zeros 64 w))
       fresh e =
           let t : eqb c 0 ≡ true = eq-eqb c 0 e in
-          let lh = low-high in
+          let lh = low_high in
           let nothing : tally q m ≡ 0 = sym h.counted ∙ e in
-          let first' : q (m + low) ≡ true = bits low (set-within low low-is.0) ∙ low-is.0 in
-          let below' : (j : ℕ) → j < m + low → q j ≡ false = λ j l. ⊎_elim (λ k. tally_clear q m j nothing k) (λ k. clear_within j k (let hn = high-in in omega arith) (low-is.1 (j - m) (omega arith))) (cases_lt j m) in
+          let first' : q (m + low) ≡ true = bits low (set_within low low_is.0) ∙ low_is.0 in
+          let below' : (j : ℕ) → j < m + low → q j ≡ false = λ j l. ⊎_elim (λ k. tally_clear q m j nothing k) (λ k. clear_within j k (let hn = high_in in omega arith) (low_is.1 (j - m) (omega arith))) (cases_lt j m) in
           rw t (record { counted = count; order = omega arith; ends = λ _. ends_with (m + low) (omega arith) first' below' })
 
       more : (c ≡ 0 → ⊥) → Ended q (m + n) (c + ones w) (cond (eqb c 0) (m + count_trailing_zeros 64 w) a) (m + (64 - count_leading_zeros 64 w))
@@ -307,18 +307,18 @@ module _ (q : ℕ → Bool) (m n c a b w : ℕ) (h : Ended q m c a b) (few : n �
           let g = h.ends (omega arith) in
           let o = g.order in
           let i = g.inside in
-          let lh = low-high in
+          let lh = low_high in
           rw t (record { counted = count; order = omega arith; ends = λ _. ends_with a (omega arith) g.first g.below })
 
 -- the ends of an ascending list
 among_at : (xs : List ℕ) (k : ℕ) → k < length xs → among (get_or xs k 0) xs ≡ true
 among_at [] k l = absurd (omega arith)
 among_at (x ∷ xs) zero l = let e : eqb x x ≡ true = eq-eqb x x refl in rw e refl
-among_at (x ∷ xs) (suc k) l = rw (among_at xs k (omega arith)) (or-true (eqb x (get_or xs k 0)))
+among_at (x ∷ xs) (suc k) l = rw (among_at xs k (omega arith)) (or_true (eqb x (get_or xs k 0)))
   where
-    or-true : (b : Bool) → (b || true) ≡ true
-    or-true true = refl
-    or-true false = refl
+    or_true : (b : Bool) → (b || true) ≡ true
+    or_true true = refl
+    or_true false = refl
 
 among_outside : (lo hi k : ℕ) (xs : List ℕ) → Rising lo hi xs → (k < lo) ⊎ (hi ≤ k) → among k xs ≡ false
 among_outside lo hi k [] h o = refl
@@ -360,11 +360,11 @@ index_ends n xs h l =
 covered_at : (rs : List Run) (k p : ℕ) → k < length rs → in_run p (get_or rs k no_run) ≡ true → covered p rs ≡ true
 covered_at [] k p l e = absurd (omega arith)
 covered_at (r ∷ rs) zero p l e = rw e refl
-covered_at (r ∷ rs) (suc k) p l e = rw (covered_at rs k p (omega arith) e) (or-true (in_run p r))
+covered_at (r ∷ rs) (suc k) p l e = rw (covered_at rs k p (omega arith) e) (or_true (in_run p r))
   where
-    or-true : (b : Bool) → (b || true) ≡ true
-    or-true true = refl
-    or-true false = refl
+    or_true : (b : Bool) → (b || true) ≡ true
+    or_true true = refl
+    or_true false = refl
 
 covered_outside : (lo hi p : ℕ) (rs : List Run) → RunsRise lo hi rs → (p < lo) ⊎ (hi ≤ p) → covered p rs ≡ false
 covered_outside lo hi p [] h o = refl
@@ -435,7 +435,7 @@ ended_turn q m n w e r h few is f = ⊎_elim none some (cases_eq w 0)
     some z =
         let t : eqb w 0 ≡ false = ne_eqb w 0 z in
         let same : r ≡ record { count = e.count + ones w; start = cond (eqb e.count 0) (m + count_trailing_zeros 64 w) e.start; «end» = m + (64 - count_leading_zeros 64 w) } = rw t at f in
-        subst (λ x. Ended q (m + n) x.count x.start x.«end») (sym same) (ended-word q m n e.count e.start e.«end» w h few is (omega arith))
+        subst (λ x. Ended q (m + n) x.count x.start x.«end») (sym same) (ended_word q m n e.count e.start e.«end» w h few is (omega arith))
 
 -- the bits of a word of a window
 pub window_word : (w : Window) (k : ℕ) → word_of w k ≡ number_of_bits (λ j. window_bit w (64 * k + j)) (min (w.len - 64 * k) 64)

@@ -1,4 +1,6 @@
 //! What is selected, and why a call is refused.
+#![tactic(auto)]
+
 mod items;
 mod loads;
 mod ranges;

@@ -25,12 +25,12 @@ kept_within q a b = all_kept_by q (λ x. (a ≤ x) × (x < b)) (range_with_len a
 
 -- the places of the positions that a test keeps, of a selection of length n at an offset, by chunk c
 module _ (q : ℕ → Bool) (offset n c : ℕ) (small : offset ≤ 1024) where
-  pub chunk-here : All (λ p. p / 1024 ≡ c) (at offset (kept_between_places q (boundary offset n c) (boundary offset n (c + 1))))
-  chunk-here = All-map (λ p. p / 1024 ≡ c) (moved offset) (kept_between_places q (boundary offset n c) (boundary offset n (c + 1))) (All-weaker (λ x. (boundary offset n c ≤ x) × (x < boundary offset n (c + 1))) (λ x. moved offset x / 1024 ≡ c) (λ x h. omega arith) (kept_between_places q (boundary offset n c) (boundary offset n (c + 1))) (kept_within q (boundary offset n c) (boundary offset n (c + 1))))
+  pub chunk_here : All (λ p. p / 1024 ≡ c) (at offset (kept_between_places q (boundary offset n c) (boundary offset n (c + 1))))
+  chunk_here = All-map (λ p. p / 1024 ≡ c) (moved offset) (kept_between_places q (boundary offset n c) (boundary offset n (c + 1))) (All-weaker (λ x. (boundary offset n c ≤ x) × (x < boundary offset n (c + 1))) (λ x. moved offset x / 1024 ≡ c) (λ x h. omega arith) (kept_between_places q (boundary offset n c) (boundary offset n (c + 1))) (kept_within q (boundary offset n c) (boundary offset n (c + 1))))
 
   -- the places before the next chunk
-  pub places-next : at offset (kept_between_places q 0 (boundary offset n (c + 1))) ≡ at offset (kept_between_places q 0 (boundary offset n c)) ++ at offset (kept_between_places q (boundary offset n c) (boundary offset n (c + 1)))
-  places-next = ap (at offset) (kept_split q 0 (boundary offset n c) (boundary offset n (c + 1)) (omega arith) (omega arith)) ∙ map-append (moved offset) (kept_between_places q 0 (boundary offset n c)) (kept_between_places q (boundary offset n c) (boundary offset n (c + 1)))
+  pub places_next : at offset (kept_between_places q 0 (boundary offset n (c + 1))) ≡ at offset (kept_between_places q 0 (boundary offset n c)) ++ at offset (kept_between_places q (boundary offset n c) (boundary offset n (c + 1)))
+  places_next = ap (at offset) (kept_split q 0 (boundary offset n c) (boundary offset n (c + 1)) (omega arith) (omega arith)) ∙ map-append (moved offset) (kept_between_places q 0 (boundary offset n c)) (kept_between_places q (boundary offset n c) (boundary offset n (c + 1)))
 
   -- how many positions come before the next chunk
   pub count_next : length (kept_between_places q 0 (boundary offset n (c + 1))) ≡ length (kept_between_places q 0 (boundary offset n c)) + length (kept_between_places q (boundary offset n c) (boundary offset n (c + 1)))

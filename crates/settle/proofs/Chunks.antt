@@ -25,5 +25,5 @@ module _ (c : ℕ) (ys : List ℕ) (here : All (λ p. p / 1024 ≡ c) ys) where
   pub only_here : chunk_places ys c ≡ ys
   only_here = all_kept (in_chunk c) ys (All-weaker (λ p. p / 1024 ≡ c) (λ p. in_chunk c p ≡ true) (λ p e. eq-eqb (p / 1024) c e) ys here)
 
-  pub none-else : (d : ℕ) → (c ≡ d → ⊥) → chunk_places ys d ≡ []
-  none-else d ne = none_kept (in_chunk d) ys (All-weaker (λ p. p / 1024 ≡ c) (λ p. in_chunk d p ≡ false) (λ p e. ne_eqb (p / 1024) d (λ f. ne (sym e ∙ f))) ys here)
+  pub none_else : (d : ℕ) → (c ≡ d → ⊥) → chunk_places ys d ≡ []
+  none_else d ne = none_kept (in_chunk d) ys (All-weaker (λ p. p / 1024 ≡ c) (λ p. in_chunk d p ≡ false) (λ p e. ne_eqb (p / 1024) d (λ f. ne (sym e ∙ f))) ys here)

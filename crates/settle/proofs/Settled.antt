@@ -23,23 +23,23 @@ at offset is = map (moved offset) is
 
 -- the answer to a push, by the first of its steps that objects
 module _ (t : Terms) (p : Push) where
-  pub by-selection : (e : Refusal) → selection_fault p.selection ≡ Some e → Err e ≡ answer t p
+  pub by_selection : (e : Refusal) → selection_fault p.selection ≡ Some e → Err e ≡ answer t p
   unfolding answer misformed
-  by-selection e h = rw h refl
+  by_selection e h = rw h refl
 
   module _ (formed : selection_fault p.selection ≡ None) where
-    pub by-room : (e : Refusal) → room_fault t.scratch p.offset ≡ Some e → Err e ≡ answer t p
+    pub by_room : (e : Refusal) → room_fault t.scratch p.offset ≡ Some e → Err e ≡ answer t p
     unfolding answer misformed
-    by-room e h = rw (formed, h) refl
+    by_room e h = rw (formed, h) refl
 
     module _ (roomy : room_fault t.scratch p.offset ≡ None) where
-      pub by-past : (e : Refusal) → first (past_source t.chunks) (places p) ≡ Some e → Err e ≡ answer t p
+      pub by_past : (e : Refusal) → first (past_source t.chunks) (places p) ≡ Some e → Err e ≡ answer t p
       unfolding answer misformed declined
-      by-past e h = rw (formed, roomy, h) refl
+      by_past e h = rw (formed, roomy, h) refl
 
-      pub by-grant : (count cost : ℕ) → first (past_source t.chunks) (places p) ≡ None → count ≡ length (places p) → cost ≡ fee t (places p) → answered (grant_fault t count cost) (record { count = count; fee = cost }) ≡ answer t p
+      pub by_grant : (count cost : ℕ) → first (past_source t.chunks) (places p) ≡ None → count ≡ length (places p) → cost ≡ fee t (places p) → answered (grant_fault t count cost) (record { count = count; fee = cost }) ≡ answer t p
       unfolding answer misformed declined
-      by-grant count cost h n f = rw (n, f, formed, roomy, h) (last (grant_fault t (length (places p)) (fee t (places p))))
+      by_grant count cost h n f = rw (n, f, formed, roomy, h) (last (grant_fault t (length (places p)) (fee t (places p))))
         where
           last : (o : Option Refusal) → answered o (receipt t (places p)) ≡ answered (first_of (first_of (o ∷ []) ∷ [])) (receipt t (places p))
           last None = refl
@@ -53,30 +53,30 @@ module _ (n : ℕ) (o : Option Refusal) where
   too_long : (e : Refusal) → long n ≡ Some e → first_of (long n ∷ o ∷ []) ≡ Some e
   too_long e l = ap (λ h. first_of (h ∷ o ∷ [])) l
 
-  not-too-long : long n ≡ None → first_of (long n ∷ o ∷ []) ≡ o
-  not-too-long l = ap (λ h. first_of (h ∷ o ∷ [])) l ∙ or_none o
+  not_too_long : long n ≡ None → first_of (long n ∷ o ∷ []) ≡ o
+  not_too_long l = ap (λ h. first_of (h ∷ o ∷ [])) l ∙ or_none o
     where
       or_none : (o : Option Refusal) → first_of (o ∷ []) ≡ o
       or_none None = refl
       or_none (Some e) = refl
 
 module _ (xs : Bor (List ℕ)) (n : ℕ) where
-  pub indices-long : (e : Refusal) → long n ≡ Some e → selection_fault (Indices xs n) ≡ Some e
+  pub indices_long : (e : Refusal) → long n ≡ Some e → selection_fault (Indices xs n) ≡ Some e
   unfolding selection_fault
-  indices-long e l = too_long n (indices_fault n xs.now) e l
+  indices_long e l = too_long n (indices_fault n xs.now) e l
 
-  pub indices-fault : long n ≡ None → selection_fault (Indices xs n) ≡ indices_fault n xs.now
+  pub indices_fault_is : long n ≡ None → selection_fault (Indices xs n) ≡ indices_fault n xs.now
   unfolding selection_fault
-  indices-fault l = not-too-long n (indices_fault n xs.now) l
+  indices_fault_is l = not_too_long n (indices_fault n xs.now) l
 
 module _ (rs : Bor (List Run)) (n : ℕ) where
-  pub runs-long : (e : Refusal) → long n ≡ Some e → selection_fault (Runs rs n) ≡ Some e
+  pub runs_long : (e : Refusal) → long n ≡ Some e → selection_fault (Runs rs n) ≡ Some e
   unfolding selection_fault
-  runs-long e l = too_long n (runs_fault n rs.now) e l
+  runs_long e l = too_long n (runs_fault n rs.now) e l
 
-  pub runs-fault : long n ≡ None → selection_fault (Runs rs n) ≡ runs_fault n rs.now
+  pub runs_fault_is : long n ≡ None → selection_fault (Runs rs n) ≡ runs_fault n rs.now
   unfolding selection_fault
-  runs-fault l = not-too-long n (runs_fault n rs.now) l
+  runs_fault_is l = not_too_long n (runs_fault n rs.now) l
 
 -- one index more
 pub at_more : (offset : ℕ) (xs : List ℕ) (k : ℕ) → k < length xs → at offset (take (k + 1) xs) ≡ at offset (take k xs) ++ ((offset + get_or xs k 0) ∷ [])
@@ -88,12 +88,12 @@ module _ (offset : ℕ) (xs : Bor (List ℕ)) (n : ℕ) (formed : selection_faul
   unfolding selection_fault
   parts = let h = none_each (long n ∷ indices_fault n xs.now ∷ []) formed in (ltb-false 16777216 n (when_none _ _ h.0), h.1.0)
 
-  pub listed-rise : Rising 0 16777216 xs.now
-  listed-rise = rising_within 0 n 0 16777216 xs.now (omega arith) parts.0 (index_rises n xs.now parts.1)
+  pub listed_rise : Rising 0 16777216 xs.now
+  listed_rise = rising_within 0 n 0 16777216 xs.now (omega arith) parts.0 (index_rises n xs.now parts.1)
 
-  pub places-listed : places (record { offset = offset; selection = Indices xs n }) ≡ at offset xs.now
+  pub places_listed : places (record { offset = offset; selection = Indices xs n }) ≡ at offset xs.now
   unfolding places
-  places-listed = ap (map (moved offset)) (indices_pick xs n parts.1)
+  places_listed = ap (map (moved offset)) (indices_pick xs n parts.1)
 
 -- a well formed run list
 module _ (offset : ℕ) (rs : Bor (List Run)) (n : ℕ) (formed : selection_fault (Runs rs n) ≡ None) where
@@ -101,12 +101,12 @@ module _ (offset : ℕ) (rs : Bor (List Run)) (n : ℕ) (formed : selection_faul
   unfolding selection_fault
   run_parts = let h = none_each (long n ∷ runs_fault n rs.now ∷ []) formed in (ltb-false 16777216 n (when_none _ _ h.0), h.1.0)
 
-  pub listed-runs-rise : RunsRise 0 16777216 rs.now
-  listed-runs-rise = runs_wider 0 n 16777216 rs.now run_parts.0 (runs_rise n rs.now run_parts.1)
+  pub listed_runs_rise : RunsRise 0 16777216 rs.now
+  listed_runs_rise = runs_wider 0 n 16777216 rs.now run_parts.0 (runs_rise n rs.now run_parts.1)
 
-  pub places-runs : places (record { offset = offset; selection = Runs rs n }) ≡ at offset (flat_map range rs.now)
+  pub places_runs : places (record { offset = offset; selection = Runs rs n }) ≡ at offset (flat_map range rs.now)
   unfolding places
-  places-runs = ap (map (moved offset)) (runs_pick_formed rs n run_parts.1)
+  places_runs = ap (map (moved offset)) (runs_pick_formed rs n run_parts.1)
 
 -- a well formed bitmap
 pub places_window : (offset : ℕ) (w : Window) → places (record { offset = offset; selection = Bitmap w }) ≡ at offset (window_positions w)

@@ -17,7 +17,7 @@ use Rattle.settle.specs.declared.settle.Terms.{Terms}
 use Rattle.settle.specs.Prices.{chunk_places, price_of_chunk, fee_of, in_chunk, price, sum_below}
 use Rattle.settle.specs.Pushes.{past_source}
 use Rattle.settle.specs.Tallies.{Tallied, beyond_fault}
-use Rattle.settle.proofs.Chunks.{fee_none, none-else, none_kept, only_here}
+use Rattle.settle.proofs.Chunks.{fee_none, none_else, none_kept, only_here}
 use Rattle.settle.proofs.Sums.{sum_same}
 
 -- a sum whose later numbers are all 0
@@ -45,16 +45,16 @@ fee_next L n ps = refl
 
 -- places of one chunk after others
 module _ (c : ℕ) (ps ys : List ℕ) (here : All (λ p. p / 1024 ≡ c) ys) where
-  count-more : (d : ℕ) → length (chunk_places (ps ++ ys) d) ≡ length (chunk_places ps d) + length (chunk_places ys d)
-  count-more d = ap length (filter-append (in_chunk d) ps ys) ∙ length-append (chunk_places ps d) (chunk_places ys d)
+  count_more : (d : ℕ) → length (chunk_places (ps ++ ys) d) ≡ length (chunk_places ps d) + length (chunk_places ys d)
+  count_more d = ap length (filter-append (in_chunk d) ps ys) ∙ length-append (chunk_places ps d) (chunk_places ys d)
 
-  pub count-on : length (chunk_places (ps ++ ys) c) ≡ length (chunk_places ps c) + length ys
-  count-on = count-more c ∙ ap (λ zs. length (chunk_places ps c) + length zs) (only_here c ys here)
+  pub count_on : length (chunk_places (ps ++ ys) c) ≡ length (chunk_places ps c) + length ys
+  count_on = count_more c ∙ ap (λ zs. length (chunk_places ps c) + length zs) (only_here c ys here)
 
   -- the chunks before them cost what they did
-  pub fee-on : (L : ℕ) → fee_of L c (ps ++ ys) ≡ fee_of L c ps
+  pub fee_on : (L : ℕ) → fee_of L c (ps ++ ys) ≡ fee_of L c ps
   unfolding fee_of
-  fee-on L = sum_same (price_of_chunk L (ps ++ ys)) (price_of_chunk L ps) c (λ d l. ap (price L) (let more = count-more d in let none : length (chunk_places ys d) ≡ 0 = ap length (none-else c ys here d (λ e. omega arith)) in omega arith))
+  fee_on L = sum_same (price_of_chunk L (ps ++ ys)) (price_of_chunk L ps) c (λ d l. ap (price L) (let more = count_more d in let none : length (chunk_places ys d) ≡ 0 = ap length (none_else c ys here d (λ e. omega arith)) in omega arith))
 
 pub first_append : {X Y : Type 0} (f : X → Option Y) (xs ys : List X) → first f (xs ++ ys) ≡ or_else (first f xs) (first f ys)
 first_append f [] ys = refl
@@ -86,23 +86,23 @@ module _ (t : Terms) (y : Tally) (ps ys : List ℕ) (c n : ℕ) (h : Tallied t y
   within_more = All-append (λ p. p / 1024 ≤ c) ps ys (All-weaker (λ p. p / 1024 ≤ y.chunk) (λ p. p / 1024 ≤ c) earlier ps h.within) (All-weaker (λ p. p / 1024 ≡ c) (λ p. p / 1024 ≤ c) (λ p e. omega arith) ys here)
 
   -- the current chunk goes on
-  pub same-chunk : c ≡ y.chunk → (y.fee ≡ fee_of t.limit c (ps ++ ys)) × (y.count + n ≡ length (chunk_places (ps ++ ys) c))
-  same-chunk e =
+  pub same_chunk : c ≡ y.chunk → (y.fee ≡ fee_of t.limit c (ps ++ ys)) × (y.count + n ≡ length (chunk_places (ps ++ ys) c))
+  same_chunk e =
       let cost : y.fee ≡ fee_of t.limit c ps = h.fee ∙ ap (λ d. fee_of t.limit d ps) (sym e) in
       let so_far : y.count ≡ length (chunk_places ps c) = h.count ∙ ap (λ d. length (chunk_places ps d)) (sym e) in
-      let on = count-on c ps ys here in
-      (cost ∙ sym (fee-on c ps ys here t.limit), omega arith)
+      let on = count_on c ps ys here in
+      (cost ∙ sym (fee_on c ps ys here t.limit), omega arith)
 
   -- another chunk begins
-  pub next-chunk : y.chunk < c → (y.fee + price t.limit y.count ≡ fee_of t.limit c (ps ++ ys)) × (0 + n ≡ length (chunk_places (ps ++ ys) c))
-  next-chunk l =
+  pub next_chunk : y.chunk < c → (y.fee + price t.limit y.count ≡ fee_of t.limit c (ps ++ ys)) × (0 + n ≡ length (chunk_places (ps ++ ys) c))
+  next_chunk l =
       let below : All (λ p. p / 1024 < suc y.chunk) ps = All-weaker (λ p. p / 1024 ≤ y.chunk) (λ p. p / 1024 < suc y.chunk) (λ p k. omega arith) ps h.within in
       let wide = fee_wider t.limit (suc y.chunk) c ps below l in
       let next = fee_next t.limit y.chunk ps in
       let cost = h.fee in
       let last : price t.limit y.count ≡ price t.limit (length (chunk_places ps y.chunk)) = ap (price t.limit) h.count in
-      let on = count-on c ps ys here in
-      let same = fee-on c ps ys here t.limit in
+      let on = count_on c ps ys here in
+      let same = fee_on c ps ys here t.limit in
       let none : length (chunk_places ps c) ≡ 0 = ap length (none_kept (in_chunk c) ps (All-weaker (λ p. p / 1024 ≤ y.chunk) (λ p. in_chunk c p ≡ false) (λ p k. ne_eqb (p / 1024) c (λ e. omega arith)) ps h.within)) in
       (omega arith, omega arith)
 
@@ -110,20 +110,20 @@ module _ (t : Terms) (y : Tally) (ps ys : List ℕ) (c n : ℕ) (h : Tallied t y
   both some = first_append (past_source t.chunks) ps ys ∙ ap₂ or_else h.beyond (past_one t.chunks c ys here (omega arith))
 
   -- the first place past the source
-  pub past-now : 0 < n → y.beyond ≡ None → t.chunks ≤ c → first (past_source t.chunks) (ps ++ ys) ≡ Some (Beyond c)
-  past-now some e l = both some ∙ ap₂ (λ o b. or_else (beyond_fault o) (when b (Beyond c))) e (le-leb t.chunks c l)
+  pub past_now : 0 < n → y.beyond ≡ None → t.chunks ≤ c → first (past_source t.chunks) (ps ++ ys) ≡ Some (Beyond c)
+  past_now some e l = both some ∙ ap₂ (λ o b. or_else (beyond_fault o) (when b (Beyond c))) e (le-leb t.chunks c l)
 
   -- there is none, or it came before
-  pub past-not : 0 < n → c < t.chunks → first (past_source t.chunks) (ps ++ ys) ≡ beyond_fault y.beyond
-  past-not some l = both some ∙ ap (λ b. or_else (beyond_fault y.beyond) (when b (Beyond c))) (lt-leb t.chunks c l) ∙ or_none (beyond_fault y.beyond)
+  pub past_not : 0 < n → c < t.chunks → first (past_source t.chunks) (ps ++ ys) ≡ beyond_fault y.beyond
+  past_not some l = both some ∙ ap (λ b. or_else (beyond_fault y.beyond) (when b (Beyond c))) (lt-leb t.chunks c l) ∙ or_none (beyond_fault y.beyond)
     where
       or_none : (o : Option Refusal) → or_else o None ≡ o
       or_none None = refl
       or_none (Some x) = refl
 
-  pub past-still : (o : Option ℕ) → 0 < n → o ≡ y.beyond → is_some o ≡ true → first (past_source t.chunks) (ps ++ ys) ≡ beyond_fault o
-  past-still None some e f = let z : ◌≡◌ {A = ℕ} 0 1 = cc in absurd (omega arith)
-  past-still (Some b) some e f = both some ∙ ap (λ o. or_else (beyond_fault o) (when (leb t.chunks c) (Beyond c))) (sym e)
+  pub past_still : (o : Option ℕ) → 0 < n → o ≡ y.beyond → is_some o ≡ true → first (past_source t.chunks) (ps ++ ys) ≡ beyond_fault o
+  past_still None some e f = let z : ◌≡◌ {A = ℕ} 0 1 = cc in absurd (omega arith)
+  past_still (Some b) some e f = both some ∙ ap (λ o. or_else (beyond_fault o) (when (leb t.chunks c) (Beyond c))) (sym e)
 
 -- a tally at chunk c: the one before if that was its chunk, and else one that counts anew
 pub record Turned (L : ℕ) (y : Tally) (c : ℕ) (z : Tally) : Type 0 where
@@ -141,8 +141,8 @@ pub price_times : (L n : ℕ) → price L n ≤ 1024 * n
 price_times L n = grind (arith, nat_tests)
 
 module _ (L : ℕ) (y : Tally) (c n : ℕ) (z : Tally) (turn : Turned L y c z) where
-  pub turned-weight : z.fee + 1024 * (z.count + n) ≤ y.fee + 1024 * (y.count + n)
-  turned-weight = go turn.by
+  pub turned_weight : z.fee + 1024 * (z.count + n) ≤ y.fee + 1024 * (y.count + n)
+  turned_weight = go turn.by
     where
       go : ((c ≡ y.chunk) × (z.fee ≡ y.fee) × (z.count ≡ y.count)) ⊎ ((y.chunk < c) × (z.fee ≡ y.fee + price L y.count) × (z.count ≡ 0)) → z.fee + 1024 * (z.count + n) ≤ y.fee + 1024 * (y.count + n)
       go (inl e) = let f = e.1 in let k = e.2 in omega arith
@@ -150,16 +150,16 @@ module _ (L : ℕ) (y : Tally) (c n : ℕ) (z : Tally) (turn : Turned L y c z) w
 
 -- the tally with the n places of ys
 module _ (t : Terms) (y : Tally) (c n : ℕ) (z : Tally) (turn : Turned t.limit y c z) (ps ys : List ℕ) (h : Tallied t y ps) (here : All (λ p. p / 1024 ≡ c) ys) (size : length ys ≡ n) (ahead : y.chunk ≤ c) where
-  turned-sums : (z.fee ≡ fee_of t.limit c (ps ++ ys)) × (z.count + n ≡ length (chunk_places (ps ++ ys) c))
-  turned-sums = go turn.by
+  turned_sums : (z.fee ≡ fee_of t.limit c (ps ++ ys)) × (z.count + n ≡ length (chunk_places (ps ++ ys) c))
+  turned_sums = go turn.by
     where
       go : ((c ≡ y.chunk) × (z.fee ≡ y.fee) × (z.count ≡ y.count)) ⊎ ((y.chunk < c) × (z.fee ≡ y.fee + price t.limit y.count) × (z.count ≡ 0)) → (z.fee ≡ fee_of t.limit c (ps ++ ys)) × (z.count + n ≡ length (chunk_places (ps ++ ys) c))
-      go (inl e) = let on = same-chunk t y ps ys c n h here size ahead e.0 in (e.1 ∙ on.0, ap (λ k. k + n) e.2 ∙ on.1)
-      go (inr e) = let on = next-chunk t y ps ys c n h here size ahead e.0 in (e.1 ∙ on.0, ap (λ k. k + n) e.2 ∙ on.1)
+      go (inl e) = let on = same_chunk t y ps ys c n h here size ahead e.0 in (e.1 ∙ on.0, ap (λ k. k + n) e.2 ∙ on.1)
+      go (inr e) = let on = next_chunk t y ps ys c n h here size ahead e.0 in (e.1 ∙ on.0, ap (λ k. k + n) e.2 ∙ on.1)
 
-  pub tallied-more : (o : Option ℕ) → first (past_source t.chunks) (ps ++ ys) ≡ beyond_fault o → Tallied t (record { fee = z.fee; chunk = z.chunk; count = z.count + n; beyond = o }) (ps ++ ys)
-  tallied-more o e =
-      let sums = turned-sums in
+  pub tallied_more : (o : Option ℕ) → first (past_source t.chunks) (ps ++ ys) ≡ beyond_fault o → Tallied t (record { fee = z.fee; chunk = z.chunk; count = z.count + n; beyond = o }) (ps ++ ys)
+  tallied_more o e =
+      let sums = turned_sums in
       let at_c = turn.chunk in
       record {
         fee = sums.0 ∙ ap (λ d. fee_of t.limit d (ps ++ ys)) (sym at_c);

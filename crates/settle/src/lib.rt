@@ -1,4 +1,6 @@
 //! What a push will answer, settled before anything is fetched.
+#![tactic(auto)]
+
 mod settle;
 
 pub use settle::{

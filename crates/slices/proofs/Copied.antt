@@ -21,8 +21,8 @@ module _ {T : Type 0} {src out : List T} {pos total : ℕ} {final : List T} (rs 
       (omega arith, omega arith, omega arith)
 
   -- the run is copied
-  pub run-copied : (out' : List T) → out' ≡ splice out pos (take ((get_or rs k no_run).«end» - (get_or rs k no_run).start) (drop (get_or rs k no_run).start src)) → Left src out' (pos + ((get_or rs k no_run).«end» - (get_or rs k no_run).start)) (flat_map range (drop (k + 1) rs)) total final
-  run-copied out' e =
+  pub run_copied : (out' : List T) → out' ≡ splice out pos (take ((get_or rs k no_run).«end» - (get_or rs k no_run).start) (drop (get_or rs k no_run).start src)) → Left src out' (pos + ((get_or rs k no_run).«end» - (get_or rs k no_run).start)) (flat_map range (drop (k + 1) rs)) total final
+  run_copied out' e =
       let r = get_or rs k no_run in
       let n : ℕ = r.«end» - r.start in
       let rest = flat_map range (drop (k + 1) rs) in

@@ -157,11 +157,11 @@ module _ (src mask b all done x n : ℕ) (l : b < 8) (is : all ≡ packed (map (
       let at : 0 + 8 * b ≡ 8 * b = omega arith in
       ap (λ n. set_bits n mask 0) on ∙ bits_split (8 * b) 8 mask 0 ∙ ap (λ p. set_bits (8 * b) mask 0 ++ set_bits 8 (mask / 2 ^ (8 * b)) p) at ∙ ap (λ ys. set_bits (8 * b) mask 0 ++ ys) (sym (bits_low 8 (mask / 2 ^ (8 * b)) (8 * b)))
 
-  pub byte-done : done ≤ 56
-  byte-done = let h = set_short (8 * b) mask 0 in omega arith
+  pub byte_done : done ≤ 56
+  byte_done = let h = set_short (8 * b) mask 0 in omega arith
 
-  pub byte-count : done + n ≡ length (set_bits (8 * (b + 1)) mask 0)
-  byte-count =
+  pub byte_count : done + n ≡ length (set_bits (8 * (b + 1)) mask 0)
+  byte_count =
       let e = n-is ∙ row_count (mask / 2 ^ (8 * b) % 256) (8 * b) in
       sym (ap length split ∙ length-append (set_bits (8 * b) mask 0) (set_bits 8 (mask / 2 ^ (8 * b) % 256) (8 * b)) ∙ ap₂ (λ s t. s + t) (sym size) (sym e))
 
@@ -176,7 +176,7 @@ module _ (src mask b all done x n : ℕ) (l : b < 8) (is : all ≡ packed (map (
       let small : x < 2 ^ 8 = rw x-ys (lt_of_lt_of_le (packed_lt ys) (pow_mono few)) in
       let len : done ≡ length xs = size ∙ sym (length-map ps (bit_of src)) in
       let below : all < 2 ^ done = rw (is, len) (packed_lt xs) in
-      let most = byte-done in
+      let most = byte_done in
       ap (bit_or all) (shl_whole x 8 done 64 small (omega arith))
       ∙ or_comm all (x * 2 ^ done)
       ∙ or_shifted x done all below

@@ -34,25 +34,25 @@ picked_adds w s ps out acc out' acc' e a = subst (λ t. Adds (map (window_bit w)
 
 -- the first thing that stands against a call
 module _ (w : Window) (s : Selection) (places : ℕ) where
-  pub selection-stands : (r : Refusal) → selection_fault s ≡ Some r → bits_fault w s places ≡ Some r
+  pub selection_stands : (r : Refusal) → selection_fault s ≡ Some r → bits_fault w s places ≡ Some r
   unfolding bits_fault
-  selection-stands r h = rw h refl
+  selection_stands r h = rw h refl
 
-  pub window-stands : (r : Refusal) → selection_fault s ≡ None → window_fault w ≡ Some r → bits_fault w s places ≡ Some r
+  pub window_stands : (r : Refusal) → selection_fault s ≡ None → window_fault w ≡ Some r → bits_fault w s places ≡ Some r
   unfolding bits_fault
-  window-stands r h g = let fault : window_fault w ≡ Some r = g in ap₂ (λ o p. first_of (o ∷ p ∷ unequal (extent s) w.len ∷ too_few places (bytes_for (count_of s)) ∷ [])) h g
+  window_stands r h g = let fault : window_fault w ≡ Some r = g in ap₂ (λ o p. first_of (o ∷ p ∷ unequal (extent s) w.len ∷ too_few places (bytes_for (count_of s)) ∷ [])) h g
 
-  pub mismatch-stands : selection_fault s ≡ None → window_fault w ≡ None → eqb (extent s) w.len ≡ false → bits_fault w s places ≡ Some Mismatch
+  pub mismatch_stands : selection_fault s ≡ None → window_fault w ≡ None → eqb (extent s) w.len ≡ false → bits_fault w s places ≡ Some Mismatch
   unfolding bits_fault
-  mismatch-stands h g e = ap₂ (λ o p. first_of (o ∷ p ∷ unequal (extent s) w.len ∷ too_few places (bytes_for (count_of s)) ∷ [])) h g ∙ ap (λ b. first_of (when (not b) Mismatch ∷ too_few places (bytes_for (count_of s)) ∷ [])) e
+  mismatch_stands h g e = ap₂ (λ o p. first_of (o ∷ p ∷ unequal (extent s) w.len ∷ too_few places (bytes_for (count_of s)) ∷ [])) h g ∙ ap (λ b. first_of (when (not b) Mismatch ∷ too_few places (bytes_for (count_of s)) ∷ [])) e
 
-  pub output-stands : selection_fault s ≡ None → window_fault w ≡ None → eqb (extent s) w.len ≡ true → ltb places (bytes_for (count_of s)) ≡ true → bits_fault w s places ≡ Some Output
+  pub output_stands : selection_fault s ≡ None → window_fault w ≡ None → eqb (extent s) w.len ≡ true → ltb places (bytes_for (count_of s)) ≡ true → bits_fault w s places ≡ Some Output
   unfolding bits_fault
-  output-stands h g e f = ap₂ (λ o p. first_of (o ∷ p ∷ unequal (extent s) w.len ∷ too_few places (bytes_for (count_of s)) ∷ [])) h g ∙ ap₂ (λ b d. first_of (when (not b) Mismatch ∷ when d Output ∷ [])) e f
+  output_stands h g e f = ap₂ (λ o p. first_of (o ∷ p ∷ unequal (extent s) w.len ∷ too_few places (bytes_for (count_of s)) ∷ [])) h g ∙ ap₂ (λ b d. first_of (when (not b) Mismatch ∷ when d Output ∷ [])) e f
 
-  pub nothing-stands : selection_fault s ≡ None → window_fault w ≡ None → eqb (extent s) w.len ≡ true → ltb places (bytes_for (count_of s)) ≡ false → bits_fault w s places ≡ None
+  pub nothing_stands : selection_fault s ≡ None → window_fault w ≡ None → eqb (extent s) w.len ≡ true → ltb places (bytes_for (count_of s)) ≡ false → bits_fault w s places ≡ None
   unfolding bits_fault
-  nothing-stands h g e f = ap₂ (λ o p. first_of (o ∷ p ∷ unequal (extent s) w.len ∷ too_few places (bytes_for (count_of s)) ∷ [])) h g ∙ ap₂ (λ b d. first_of (when (not b) Mismatch ∷ when d Output ∷ [])) e f
+  nothing_stands h g e f = ap₂ (λ o p. first_of (o ∷ p ∷ unequal (extent s) w.len ∷ too_few places (bytes_for (count_of s)) ∷ [])) h g ∙ ap₂ (λ b d. first_of (when (not b) Mismatch ∷ when d Output ∷ [])) e f
 
 pub refused_value : {X : Type 0} (o : Option Refusal) (r : Refusal) (x : X) → o ≡ Some r → Err r ≡ answered o x
 refused_value o r x e = sym (ap (λ p. answered p x) e)

@@ -140,8 +140,8 @@ module _ {T : Type 0} {orig cur : List T} {at total : ℕ} {final : List T} (m b
   first : Held orig cur at ((base + count_trailing_zeros 64 m) ∷ set_bits 64 (bit_and m (m - 1)) base) total final
   first = held_same ((base + count_trailing_zeros 64 m) ∷ set_bits 64 (bit_and m (m - 1)) base) (bits_lowest 64 m base p b) h
 
-  pub bit-fits : (at ≤ base + count_trailing_zeros 64 m) × (base + count_trailing_zeros 64 m < length orig)
-  bit-fits = (first.rises.0, first.rises.1)
+  pub bit_fits : (at ≤ base + count_trailing_zeros 64 m) × (base + count_trailing_zeros 64 m < length orig)
+  bit_fits = (first.rises.0, first.rises.1)
 
   pub bit_moved : (y : T) → length cur ≡ length orig → y ≡ get_or cur (base + count_trailing_zeros 64 m) y → Held orig (set cur at y) (at + 1) (set_bits 64 (bit_and m (m - 1)) base) total final
   bit_moved y n e = held_one (base + count_trailing_zeros 64 m) (set_bits 64 (bit_and m (m - 1)) base) y first n e

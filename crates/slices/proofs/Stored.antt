@@ -92,19 +92,19 @@ module _ (bs xs : List Bool) (before out : List ℕ) (acc : Accumulator) (x n : 
       let turn : length bs ≡ acc.fill + 8 * acc.at = let e = h.count in omega arith in
       rw h.low (shr_lt acc.fill (8 * acc.at) (subst (λ t. packed bs < 2 ^ t) turn (packed_lt bs)))
 
-  size-both : length (bs ++ xs) ≡ acc.fill + n + 8 * acc.at
-  size-both = let e = h.count in length-append bs xs ∙ omega arith
+  size_both : length (bs ++ xs) ≡ acc.fill + n + 8 * acc.at
+  size_both = let e = h.count in length-append bs xs ∙ omega arith
 
   less : x * 2 ^ acc.fill + acc.low < 2 ^ (acc.fill + n)
-  less = rw (← total) (shr_lt (acc.fill + n) (8 * acc.at) (subst (λ t. packed (bs ++ xs) < 2 ^ t) size-both (packed_lt (bs ++ xs))))
+  less = rw (← total) (shr_lt (acc.fill + n) (8 * acc.at) (subst (λ t. packed (bs ++ xs) < 2 ^ t) size_both (packed_lt (bs ++ xs))))
 
   same_bytes : low_bytes acc.at (packed (bs ++ xs)) ≡ low_bytes acc.at (packed bs)
   same_bytes = ap (low_bytes acc.at) both ∙ low_above acc.at (x * 2 ^ acc.fill) (packed bs)
 
   -- they fit
-  pub adds-within : acc.fill + n < 64 → Holds (bs ++ xs) before out (record { low = bit_or acc.low ((x * 2 ^ acc.fill) % 2 ^ 64); fill = acc.fill + n; at = acc.at })
-  adds-within l =
-      let c = size-both in
+  pub adds_within : acc.fill + n < 64 → Holds (bs ++ xs) before out (record { low = bit_or acc.low ((x * 2 ^ acc.fill) % 2 ^ 64); fill = acc.fill + n; at = acc.at })
+  adds_within l =
+      let c = size_both in
       record {
         fill = l;
         count = omega arith;
@@ -113,18 +113,18 @@ module _ (bs xs : List Bool) (before out : List ℕ) (acc : Accumulator) (x n : 
         low = or_word acc.low x acc.fill h.fill few ∙ mod-eq_of_lt (lt_of_lt_of_le less (pow_mono {j = 64} (omega arith))) ∙ sym total;
       }
 
-  held-length : length out ≡ length before
-  held-length =
+  held_length : length out ≡ length before
+  held_length =
       let i = h.inside in
       let e = length_low acc.at (packed bs) in
       ap length h.written ∙ length_splice before 0 (low_bytes acc.at (packed bs)) (omega arith)
 
   -- 64 are full
-  pub adds-past : (out' : List ℕ) → n ≤ 64 → 64 ≤ acc.fill + n → 8 * acc.at + acc.fill + n ≤ 8 * length out → out' ≡ splice out acc.at (low_bytes 8 (bit_or acc.low ((x * 2 ^ acc.fill) % 2 ^ 64))) → Holds (bs ++ xs) before out' (record { low = x / 2 / 2 ^ (63 - acc.fill); fill = acc.fill + n - 64; at = acc.at + 8 })
-  adds-past out' m l room e =
-      let c = size-both in
+  pub adds_past : (out' : List ℕ) → n ≤ 64 → 64 ≤ acc.fill + n → 8 * acc.at + acc.fill + n ≤ 8 * length out → out' ≡ splice out acc.at (low_bytes 8 (bit_or acc.low ((x * 2 ^ acc.fill) % 2 ^ 64))) → Holds (bs ++ xs) before out' (record { low = x / 2 / 2 ^ (63 - acc.fill); fill = acc.fill + n - 64; at = acc.at + 8 })
+  adds_past out' m l room e =
+      let c = size_both in
       let f = h.fill in
-      let long = held-length in
+      let long = held_length in
       let a = acc.at in
       let word : low_bytes 8 (bit_or acc.low ((x * 2 ^ acc.fill) % 2 ^ 64)) ≡ low_bytes 8 (packed (bs ++ xs) / 2 ^ (8 * a)) = ap (low_bytes 8) (or_word acc.low x acc.fill h.fill few) ∙ low_mod 8 (x * 2 ^ acc.fill + acc.low) ∙ ap (low_bytes 8) (sym total) in
       let next : 8 * a + 64 ≡ 8 * (a + 8) = omega arith in

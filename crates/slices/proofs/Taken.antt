@@ -86,12 +86,12 @@ module _ (source window : Window) (same : window.len ≡ source.len) (k : ℕ) w
   small : (n : ℕ) → n ≤ 64 → All (λ j. j < n) (set_bits n (word_of window k) 0)
   small n h = subst (All (λ j. j < n)) (bits_own n (word_of window k)) (kept_inside (bit_of (word_of window k)) n)
 
-  and-true : (b : Bool) → (b && true) ≡ b
-  and-true true = refl
-  and-true false = refl
+  and_true : (b : Bool) → (b && true) ≡ b
+  and_true true = refl
+  and_true false = refl
 
   one_of : (j : ℕ) → j < 64 → 64 * k + j < window.len → bit_of (word_of source k) j ≡ window_bit source (64 * k + j)
-  one_of j l i = bits_of_window source k j l ∙ ap (λ b. window_bit source (64 * k + j) && b) (lt-ltb (64 * k + j) source.len (omega arith)) ∙ and-true (window_bit source (64 * k + j))
+  one_of j l i = bits_of_window source k j l ∙ ap (λ b. window_bit source (64 * k + j) && b) (lt-ltb (64 * k + j) source.len (omega arith)) ∙ and_true (window_bit source (64 * k + j))
 
   pub taken_of : (n : ℕ) → n ≤ 64 → map (window_bit source) (set_bits n (word_of window k) (64 * k)) ≡ map (bit_of (word_of source k)) (set_bits n (word_of window k) 0)
   taken_of n h =
@@ -100,8 +100,8 @@ module _ (source window : Window) (same : window.len ≡ source.len) (k : ℕ) w
       ∙ sym (same_on (λ j. j < n) (λ j. 64 * k + j < window.len) (bit_of (word_of source k)) (λ j. window_bit source (64 * k + j)) (λ j l i. one_of j (omega arith) i) (set_bits n (word_of window k) 0) (small n h) (below n h))
 
   -- the bits of one word, and the rest
-  pub left-taken : (m : ℕ) → k < m → map (window_bit source) (left_of (mask_bit (Framed window)) k m) ≡ map (bit_of (word_of source k)) (set_bits 64 (word_of window k) 0) ++ map (window_bit source) (left_of (mask_bit (Framed window)) (k + 1) m)
-  left-taken m l =
+  pub left_taken : (m : ℕ) → k < m → map (window_bit source) (left_of (mask_bit (Framed window)) k m) ≡ map (bit_of (word_of source k)) (set_bits 64 (word_of window k) 0) ++ map (window_bit source) (left_of (mask_bit (Framed window)) (k + 1) m)
+  left_taken m l =
       ap (map (window_bit source)) (left_word (mask_bit (Framed window)) k m (word_of window k) l (bits_of_window window k))
       ∙ map-append (window_bit source) (set_bits 64 (word_of window k) (64 * k)) (left_of (mask_bit (Framed window)) (k + 1) m)
       ∙ ap (λ ys. ys ++ map (window_bit source) (left_of (mask_bit (Framed window)) (k + 1) m)) (taken_of 64 (omega arith))

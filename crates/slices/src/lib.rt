@@ -1,4 +1,6 @@
 //! Filters what lies in memory: slices, and bits.
+#![tactic(auto)]
+
 mod accumulator;
 mod admit;
 mod bits;

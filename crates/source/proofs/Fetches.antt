@@ -73,27 +73,27 @@ admits chunks left room c is h =
     )
 
 module _ {T : Type 0} (h : Held T) (c : ℕ) (is : List ℕ) where
-  pub fetched-ok : fetch_fault h c is ≡ None → fetched h c is ≡ delivered h c is
+  pub fetched_ok : fetch_fault h c is ≡ None → fetched h c is ≡ delivered h c is
   unfolding fetched
-  fetched-ok e = ap (λ o. settled o h (delivered h c is)) e
+  fetched_ok e = ap (λ o. settled o h (delivered h c is)) e
 
-  pub fetched-err : (r : Refusal) → fetch_fault h c is ≡ Some r → fetched h c is ≡ h
+  pub fetched_err : (r : Refusal) → fetch_fault h c is ≡ Some r → fetched h c is ≡ h
   unfolding fetched
-  fetched-err r e = ap (λ o. settled o h (delivered h c is)) e
+  fetched_err r e = ap (λ o. settled o h (delivered h c is)) e
 
   -- what a source shows of a fetch that it carried out
-  pub carried-out : (chunks left : ℕ) (out : List T) → chunks ≡ chunks_of h.readings → first_of (objections chunks h.allowance (length h.output) c is) ≡ None → left ≡ h.allowance - length is → out ≡ splice h.output 0 (gather h.readings (map (place_in c) is)) → (Ok (tt {0}) ≡ answered (fetch_fault h c is) (tt {0})) × (holding h.readings left out ≡ fetched h c is)
+  pub carried_out : (chunks left : ℕ) (out : List T) → chunks ≡ chunks_of h.readings → first_of (objections chunks h.allowance (length h.output) c is) ≡ None → left ≡ h.allowance - length is → out ≡ splice h.output 0 (gather h.readings (map (place_in c) is)) → (Ok (tt {0}) ≡ answered (fetch_fault h c is) (tt {0})) × (holding h.readings left out ≡ fetched h c is)
   unfolding fetch_fault
-  carried-out chunks left out n ok l o =
+  carried_out chunks left out n ok l o =
       let none : fetch_fault h c is ≡ None = ap (λ m. first_of (objections m h.allowance (length h.output) c is)) (sym n) ∙ ok in
-      (ok_answered (fetch_fault h c is) (tt {0}) none, ap₂ (λ a b. holding h.readings a b) l o ∙ sym (fetched-ok none))
+      (ok_answered (fetch_fault h c is) (tt {0}) none, ap₂ (λ a b. holding h.readings a b) l o ∙ sym (fetched_ok none))
 
   -- and of one that it refused
   pub turned_down : (chunks : ℕ) (e : Refusal) → chunks ≡ chunks_of h.readings → Err e ≡ answered (first_of (objections chunks h.allowance (length h.output) c is)) (tt {0}) → (Err e ≡ answered (fetch_fault h c is) (tt {0})) × (h ≡ fetched h c is)
   unfolding fetch_fault
   turned_down chunks e n r =
       let stands : fetch_fault h c is ≡ Some e = ap (λ m. first_of (objections m h.allowance (length h.output) c is)) (sym n) ∙ answered_err (first_of (objections chunks h.allowance (length h.output) c is)) (tt {0}) e (sym r) in
-      (sym (ap (λ o. answered o (tt {0})) stands), sym (fetched-err e stands))
+      (sym (ap (λ o. answered o (tt {0})) stands), sym (fetched_err e stands))
 
 -- the readings of a chunk, one after another
 pub whole_places : (c : ℕ) → map (place_in c) whole_chunk ≡ range_with_len (1024 * c) 1024

@@ -1,4 +1,6 @@
 //! Where readings come from.
+#![tactic(auto)]
+
 mod decoder;
 mod packs;
 mod ramps;

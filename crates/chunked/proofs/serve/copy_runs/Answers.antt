@@ -7,7 +7,7 @@ use Rattle.selection.specs.Selected.{no_run}
 use Rattle.kernels.specs.Moved.{gather, shifted, splice}
 use Rattle.chunked.specs.Spans.{Spans, in_span, span_end, span_start, spanned}
 use Rattle.kernels.proofs.Gathered.{gather_append, gather_counting, length_gather}
-use Rattle.chunked.proofs.Spanning.{counting_less, put_rest_more, span_inside, span-take-count, span-take-more, span_take_most}
+use Rattle.chunked.proofs.Spanning.{counting_less, put_rest_more, span_inside, span_take_count, span_take_more, span_take_most}
 use Rattle.chunked.proofs.serve.copy_runs.Goals as goal
 
 pub cut-run-piece-requires : goal.cut-run-piece-requires
@@ -36,7 +36,7 @@ overflow-sub-n g c =
     let b : c.cut-run-piece.result.«end» ≡ span_end offset hi r = ap (λ x. x.«end») c.cut-run-piece.ensures in
     let ordered = ok.ordered in
     let above = ok.above in
-    let count = span-take-count offset lo hi runs i here in
+    let count = span_take_count offset lo hi runs i here in
     let most = span_take_most offset lo hi runs (i + 1) in
     let room = c.requires.room in
     let bound = c.requires.bound in
@@ -59,7 +59,7 @@ overflow-sub-piece g c =
     let b : c.cut-run-piece.result.«end» ≡ span_end offset hi r = ap (λ x. x.«end») c.cut-run-piece.ensures in
     let ordered = ok.ordered in
     let above = ok.above in
-    let count = span-take-count offset lo hi runs i here in
+    let count = span_take_count offset lo hi runs i here in
     let most = span_take_most offset lo hi runs (i + 1) in
     let room = c.requires.room in
     let bound = c.requires.bound in
@@ -82,7 +82,7 @@ offset-bounds-dst-at g c =
     let b : c.cut-run-piece.result.«end» ≡ span_end offset hi r = ap (λ x. x.«end») c.cut-run-piece.ensures in
     let ordered = ok.ordered in
     let above = ok.above in
-    let count = span-take-count offset lo hi runs i here in
+    let count = span_take_count offset lo hi runs i here in
     let most = span_take_most offset lo hi runs (i + 1) in
     let room = c.requires.room in
     let bound = c.requires.bound in
@@ -105,7 +105,7 @@ slice-bounds-copy-part-count g c =
     let b : c.cut-run-piece.result.«end» ≡ span_end offset hi r = ap (λ x. x.«end») c.cut-run-piece.ensures in
     let ordered = ok.ordered in
     let above = ok.above in
-    let count = span-take-count offset lo hi runs i here in
+    let count = span_take_count offset lo hi runs i here in
     let most = span_take_most offset lo hi runs (i + 1) in
     let room = c.requires.room in
     let bound = c.requires.bound in
@@ -128,7 +128,7 @@ slice-bounds-copy-part-start g c =
     let b : c.cut-run-piece.result.«end» ≡ span_end offset hi r = ap (λ x. x.«end») c.cut-run-piece.ensures in
     let ordered = ok.ordered in
     let above = ok.above in
-    let count = span-take-count offset lo hi runs i here in
+    let count = span_take_count offset lo hi runs i here in
     let most = span_take_most offset lo hi runs (i + 1) in
     let room = c.requires.room in
     let bound = c.requires.bound in
@@ -151,7 +151,7 @@ overflow-add-at g c =
     let b : c.cut-run-piece.result.«end» ≡ span_end offset hi r = ap (λ x. x.«end») c.cut-run-piece.ensures in
     let ordered = ok.ordered in
     let above = ok.above in
-    let count = span-take-count offset lo hi runs i here in
+    let count = span_take_count offset lo hi runs i here in
     let most = span_take_most offset lo hi runs (i + 1) in
     let room = c.requires.room in
     let bound = c.requires.bound in
@@ -174,7 +174,7 @@ copy-part-requires g c =
     let b : c.cut-run-piece.result.«end» ≡ span_end offset hi r = ap (λ x. x.«end») c.cut-run-piece.ensures in
     let ordered = ok.ordered in
     let above = ok.above in
-    let count = span-take-count offset lo hi runs i here in
+    let count = span_take_count offset lo hi runs i here in
     let most = span_take_most offset lo hi runs (i + 1) in
     let room = c.requires.room in
     let bound = c.requires.bound in
@@ -199,7 +199,7 @@ loop-run-preserved g c =
     let b : c.cut-run-piece.result.«end» ≡ span_end offset hi r = ap (λ x. x.«end») c.cut-run-piece.ensures in
     let ordered = ok.ordered in
     let above = ok.above in
-    let count = span-take-count offset lo hi runs i here in
+    let count = span_take_count offset lo hi runs i here in
     let most = span_take_most offset lo hi runs (i + 1) in
     let room = c.requires.room in
     let bound = c.requires.bound in
@@ -218,7 +218,7 @@ loop-run-preserved g c =
     let piece : take (c.cut-run-piece.result.«end» - c.cut-run-piece.result.start) (drop (c.cut-run-piece.result.start - base) src) ≡ ws = ap₂ (λ m y. take m (drop (y - base) src)) size a ∙ sym (gather_counting src n (span_start offset lo hi r - base)) ∙ ap (gather src) (counting_less base (span_start offset lo hi r) n above) in
     let inside = span_inside offset lo hi base (length src) (take i runs) (All-take (Spans offset lo hi base) i runs c.requires.runs) wide in
     let vs-long : length vs ≡ at = length_gather src (map (shifted 0 base) (in_span offset lo hi (take i runs))) inside ∙ length-map (in_span offset lo hi (take i runs)) (shifted 0 base) ∙ sym inv in
-    let all : gather src (map (shifted 0 base) (in_span offset lo hi (take (i + 1) runs))) ≡ vs ++ ws = ap (λ xs. gather src (map (shifted 0 base) xs)) (span-take-more offset lo hi runs i here) ∙ ap (gather src) (map-append (shifted 0 base) (in_span offset lo hi (take i runs)) (spanned offset lo hi r)) ∙ gather_append src (map (shifted 0 base) (in_span offset lo hi (take i runs))) (map (shifted 0 base) (spanned offset lo hi r)) in (
+    let all : gather src (map (shifted 0 base) (in_span offset lo hi (take (i + 1) runs))) ≡ vs ++ ws = ap (λ xs. gather src (map (shifted 0 base) xs)) (span_take_more offset lo hi runs i here) ∙ ap (gather src) (map-append (shifted 0 base) (in_span offset lo hi (take i runs)) (spanned offset lo hi r)) ∙ gather_append src (map (shifted 0 base) (in_span offset lo hi (take i runs))) (map (shifted 0 base) (spanned offset lo hi r)) in (
       omega arith,
       put_rest_more c.args.dst.now vs ws c.loop-run.dst c.copy-part.new.dst at vs-long c.loop-run.invariant.1 (c.copy-part.ensures ∙ ap (splice (take (length c.loop-run.dst - at) (drop at c.loop-run.dst)) 0) piece) ∙ ap (splice c.args.dst.now 0) (sym all),
     )

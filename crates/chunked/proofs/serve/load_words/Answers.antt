@@ -4,7 +4,7 @@ use Rattle.std.proofs.lemmas.List.{get_or-set_same, get_or-set_other}
 use Rattle.selection.specs.Selected.{window_from}
 use Rattle.selection.proofs.Bits.{tally, tally_le}
 use Rattle.selection.proofs.Fields.{ones_bits}
-use Rattle.chunked.proofs.Windows.{loaded-covers, loaded-picks}
+use Rattle.chunked.proofs.Windows.{loaded_covers, loaded_picks}
 use Rattle.chunked.proofs.serve.load_words.Goals as goal
 
 pub overflow-add-ones : goal.overflow-add-ones
@@ -50,9 +50,9 @@ returns c =
     let enough = c.requires.enough in
     let close = c.requires.close in
     let end : min n (64 * c.loop-k.k) ≡ n = omega arith in
-    let picks = loaded-picks w from n c.loop-k.words (omega arith) (omega arith) c.requires.inside (λ j h. c.loop-k.invariant.0 j (omega arith)) in
+    let picks = loaded_picks w from n c.loop-k.words (omega arith) (omega arith) c.requires.inside (λ j h. c.loop-k.invariant.0 j (omega arith)) in
     record {
-      covers = loaded-covers w from n c.loop-k.words (omega arith) (omega arith) c.requires.inside (λ j h. c.loop-k.invariant.0 j (omega arith));
+      covers = loaded_covers w from n c.loop-k.words (omega arith) (omega arith) c.requires.inside (λ j h. c.loop-k.invariant.0 j (omega arith));
       picks = picks;
       count = c.loop-k.invariant.1 ∙ ap (tally (window_from w from)) end ∙ sym (ap length picks);
     }

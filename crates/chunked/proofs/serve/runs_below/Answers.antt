@@ -5,7 +5,7 @@ use Rattle.std.proofs.ByRecursion.{All-append}
 use Rattle.std.proofs.lemmas.Slice.{between_to_end}
 use Rattle.selection.specs.Selected.{no_run}
 use Rattle.chunked.specs.Spans.{EndsBy, in_span}
-use Rattle.chunked.proofs.Spanning.{count-few, count-more, ends-ahead, runs_at, span-stops}
+use Rattle.chunked.proofs.Spanning.{count_few, count_more, ends_ahead, runs_at, span_stops}
 use Rattle.chunked.proofs.serve.runs_below.Goals as goal
 
 pub cut-run-piece-requires : goal.cut-run-piece-requires
@@ -26,7 +26,7 @@ overflow-sub-count c =
     let here : i < length runs = c.loop-next-test.true in
     let a = ap (λ x. x.start) c.cut-run-piece.ensures in
     let b = ap (λ x. x.«end») c.cut-run-piece.ensures in
-    let ahead = ends-ahead offset lo hi runs from i c.requires.rising order here c.requires.ahead in
+    let ahead = ends_ahead offset lo hi runs from i c.requires.rising order here c.requires.ahead in
     let at_i = runs_at 0 16777216 runs i c.requires.rising here in
     let l = c.requires.order in
     omega arith
@@ -43,8 +43,8 @@ overflow-add-count c =
     let here : i < length runs = c.loop-next-test.true in
     let a = ap (λ x. x.start) c.cut-run-piece.ensures in
     let b = ap (λ x. x.«end») c.cut-run-piece.ensures in
-    let more = count-more offset lo hi runs from i c.requires.rising order here in
-    let few = count-few offset lo hi runs from i c.requires.rising order here in
+    let more = count_more offset lo hi runs from i c.requires.rising order here in
+    let few = count_few offset lo hi runs from i c.requires.rising order here in
     let inv = c.loop-next.invariant.0 in
     let fits : c.loop-next.count + (c.cut-run-piece.result.«end» - c.cut-run-piece.result.start) < 2 ^ 64 = omega arith in
     search rules
@@ -68,8 +68,8 @@ returns-then-run-offset c =
     let here : i < length runs = c.loop-next-test.true in
     let a = ap (λ x. x.start) c.cut-run-piece.ensures in
     let b = ap (λ x. x.«end») c.cut-run-piece.ensures in
-    let more = count-more offset lo hi runs from i c.requires.rising order here in
-    let stops = ap length (span-stops offset lo hi runs from i c.requires.rising order here c.if-run-offset.true) in
+    let more = count_more offset lo hi runs from i c.requires.rising order here in
+    let stops = ap length (span_stops offset lo hi runs from i c.requires.rising order here c.if-run-offset.true) in
     let inv = c.loop-next.invariant.0 in
     record { count = omega arith; next = (order, omega arith); done = c.loop-next.invariant.1; past = λ _. c.if-run-offset.true }
 
@@ -85,7 +85,7 @@ loop-next-preserved c =
     let here : i < length runs = c.loop-next-test.true in
     let a = ap (λ x. x.start) c.cut-run-piece.ensures in
     let b = ap (λ x. x.«end») c.cut-run-piece.ensures in
-    let more = count-more offset lo hi runs from i c.requires.rising order here in
+    let more = count_more offset lo hi runs from i c.requires.rising order here in
     let inv = c.loop-next.invariant.0 in
     (omega arith, rw (between_more runs from i no_run order here) (All-append (EndsBy offset hi) (between from i runs) (get_or runs i no_run ∷ []) c.loop-next.invariant.1 (c.if-run-offset.false, tt)))
 

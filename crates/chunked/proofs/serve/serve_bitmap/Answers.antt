@@ -10,8 +10,8 @@ use Rattle.settle.specs.Bounds.{boundary, kept_between_places}
 use Rattle.chunked.specs.Served.{Servable, offered, serving, storing}
 use Rattle.settle.proofs.Bitmaps.{count_next, kept_few, kept_start, kept_whole}
 use Rattle.settle.proofs.Settled.{at}
-use Rattle.chunked.proofs.Windows.{bitmap-cut, bitmap-part, kept_rises}
-use Rattle.chunked.proofs.Serving.{Serves, cut-servable, granted, serves_all, serves_more, serves_still, serving_none}
+use Rattle.chunked.proofs.Windows.{bitmap_cut, bitmap_part, kept_rises}
+use Rattle.chunked.proofs.Serving.{Serves, cut_servable, granted, serves_all, serves_more, serves_still, serving_none}
 use Rattle.chunked.proofs.serve.serve_bitmap.Goals as goal
 
 pub loop-chunk-init : goal.loop-chunk-init
@@ -84,10 +84,10 @@ serve-chunk-bitmap-n-requires g c =
     record {
       servable = λ some.
           let some' : 0 < n = subst (λ m. 0 < m) (ap₂ (λ x y. length (kept_between_places q x y)) a b) some in
-          let k = bitmap-cut q offset len chunk c.requires.small done n c.loop-chunk.invariant.1 refl some' in
-          let part = bitmap-part q offset len chunk c.requires.small done n c.loop-chunk.invariant.1 refl some' in
+          let k = bitmap_cut q offset len chunk c.requires.small done n c.loop-chunk.invariant.1 refl some' in
+          let part = bitmap_part q offset len chunk c.requires.small done n c.loop-chunk.invariant.1 refl some' in
           let both : between done (done + n) ps ≡ at offset (kept_between_places q c.chunk-boundary-from.result c.chunk-boundary-to.result) = part ∙ ap₂ (λ x y. at offset (kept_between_places q x y)) (sym a) (sym b) in
-          subst (Servable (offered L t (c.args.at + done)) chunk) both (cut-servable L s t c.args.at ps done (done + n) chunk _ _ c.loop-chunk.invariant.0 k up ok whole c.requires.room);
+          subst (Servable (offered L t (c.args.at + done)) chunk) both (cut_servable L s t c.args.at ps done (done + n) chunk _ _ c.loop-chunk.invariant.0 k up ok whole c.requires.room);
       low = omega arith;
       high = omega arith;
       order = omega arith;
@@ -122,8 +122,8 @@ loop-chunk-preserved g c =
     let ys = kept_between_places q c.chunk-boundary-from.result c.chunk-boundary-to.result in
     let some_more : 0 < n → Serves L s u c.args.at ps (done + n) =
     λ some.
-    let k = bitmap-cut q offset len chunk c.requires.small done n inv ones some in
-    let part = bitmap-part q offset len chunk c.requires.small done n inv ones some in
+    let k = bitmap_cut q offset len chunk c.requires.small done n inv ones some in
+    let part = bitmap_part q offset len chunk c.requires.small done n inv ones some in
     let both : between done (done + n) ps ≡ at offset ys = part ∙ ap₂ (λ x y. at offset (kept_between_places q x y)) (sym a) (sym b) in
     serves_more L s t c.args.at ps done (done + n) chunk _ _ c.loop-chunk.invariant.0 k up ok whole c.requires.room u (c.serve-chunk-bitmap-n.ensures.served ∙ ap (serving L t (c.args.at + done)) (sym both)) in
     let none_more : n ≤ 0 → Serves L s u c.args.at ps (done + n) =

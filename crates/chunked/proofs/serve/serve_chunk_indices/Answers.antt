@@ -6,7 +6,7 @@ use Rattle.settle.specs.Pushes.{moved}
 use Rattle.chunked.specs.Served.{storing}
 use Rattle.settle.proofs.Settled.{at}
 use Rattle.chunked.proofs.Fetching.{Fetch, put_rest}
-use Rattle.chunked.proofs.Serving.{Leaves, clear-chunk, clear-sparse, inside, leaves-served, picked_is, sparse, straight, through, written_within}
+use Rattle.chunked.proofs.Serving.{Leaves, clear_chunk, clear_sparse, inside, leaves_served, picked_is, sparse, straight, through, written_within}
 use Rattle.chunked.proofs.serve.serve_chunk_indices.Goals as goal
 
 pub shift-all-requires : goal.shift-all-requires
@@ -31,7 +31,7 @@ fetch-indices-requires g c =
     let few = c.if-n-limit.true in
     let room = written_within L s c.args.at chunk (at offset is) c.requires in
     let js = picked_is c.shift-all.new.out _ (map (shifted offset (chunk * 1024)) is) (length is) c.shift-all.ensures (length-map is (shifted offset (chunk * 1024))) in
-    record { within = omega arith; clear = clear-sparse L s c.args.at chunk offset is c.requires whole _ js (omega arith) }
+    record { within = omega arith; clear = clear_sparse L s c.args.at chunk offset is c.requires whole _ js (omega arith) }
 
 pub fetch-chunk-requires : goal.fetch-chunk-requires
 fetch-chunk-requires g c =
@@ -47,7 +47,7 @@ fetch-chunk-requires g c =
     let all = c.if-n-eq-CHUNK.true in
     let room = written_within L s c.args.at chunk (at offset is) c.requires in
     let rest = length-drop c.args.at c.args.output.now in
-    record { within = omega arith; clear = clear-chunk L s c.args.at chunk (at offset is) c.requires (drop c.args.at c.args.output.now) (omega arith) (omega arith) }
+    record { within = omega arith; clear = clear_chunk L s c.args.at chunk (at offset is) c.requires (drop c.args.at c.args.output.now) (omega arith) (omega arith) }
 
 pub fetch-chunk-requires-else-n-eq-CHUNK : goal.fetch-chunk-requires-else-n-eq-CHUNK
 fetch-chunk-requires-else-n-eq-CHUNK g c =
@@ -60,7 +60,7 @@ fetch-chunk-requires-else-n-eq-CHUNK g c =
     let limit = c.sparse-limit-limit.ensures in
     let size = length-map is (moved offset) in
     let more = c.if-n-limit.false in
-    record { within = omega arith; clear = clear-chunk L s c.args.at chunk (at offset is) c.requires c.args.scratch.now c.requires.room (omega arith) }
+    record { within = omega arith; clear = clear_chunk L s c.args.at chunk (at offset is) c.requires c.args.scratch.now c.requires.room (omega arith) }
 
 pub copy-at-requires : goal.copy-at-requires
 copy-at-requires g c =
@@ -91,7 +91,7 @@ returns-then-n-limit g c =
     let e = c.fetch-indices.ensures in
     let few = c.if-n-limit.true in
     let js = picked_is c.shift-all.new.out _ (map (shifted offset (chunk * 1024)) is) (length is) c.shift-all.ensures (length-map is (shifted offset (chunk * 1024))) in
-    leaves-served L s c.args.at chunk (at offset is) c.requires _ _ _ _ (sparse L s c.args.at chunk offset is c.requires whole _ _ _ _ (omega arith) js (record { kept = e.kept; paid = e.paid; wrote = e.wrote }))
+    leaves_served L s c.args.at chunk (at offset is) c.requires _ _ _ _ (sparse L s c.args.at chunk offset is c.requires whole _ _ _ _ (omega arith) js (record { kept = e.kept; paid = e.paid; wrote = e.wrote }))
 
 pub returns-then-n-eq-CHUNK : goal.returns-then-n-eq-CHUNK
 returns-then-n-eq-CHUNK g c =
@@ -106,7 +106,7 @@ returns-then-n-eq-CHUNK g c =
     let e = c.fetch-chunk.ensures in
     let more = c.if-n-limit.false in
     let all = c.if-n-eq-CHUNK.true in
-    leaves-served L s c.args.at chunk (at offset is) c.requires _ _ _ _ (straight L s c.args.at chunk (at offset is) c.requires whole _ _ _ (omega arith) (omega arith) (record { kept = e.kept; paid = e.paid; wrote = e.wrote }))
+    leaves_served L s c.args.at chunk (at offset is) c.requires _ _ _ _ (straight L s c.args.at chunk (at offset is) c.requires whole _ _ _ (omega arith) (omega arith) (record { kept = e.kept; paid = e.paid; wrote = e.wrote }))
 
 pub returns-else-n-eq-CHUNK : goal.returns-else-n-eq-CHUNK
 returns-else-n-eq-CHUNK g c =
@@ -122,4 +122,4 @@ returns-else-n-eq-CHUNK g c =
     let more = c.if-n-limit.false in
     let part = c.copy-at.new.dst in
     let copied = c.copy-at.ensures ∙ ap (λ zs. splice zs 0 (gather c.fetch-chunk-else-n-eq-CHUNK.new.output (map (shifted offset (chunk * 1024)) is))) (take_rest s.output c.args.at) in
-    leaves-served L s c.args.at chunk (at offset is) c.requires _ _ _ _ (through L s c.args.at chunk offset is c.requires whole _ _ part _ _ (omega arith) c.if-n-eq-CHUNK.false (record { kept = e.kept; paid = e.paid; wrote = e.wrote }) copied (put_rest s.output part c.args.at))
+    leaves_served L s c.args.at chunk (at offset is) c.requires _ _ _ _ (through L s c.args.at chunk offset is c.requires whole _ _ part _ _ (omega arith) c.if-n-eq-CHUNK.false (record { kept = e.kept; paid = e.paid; wrote = e.wrote }) copied (put_rest s.output part c.args.at))

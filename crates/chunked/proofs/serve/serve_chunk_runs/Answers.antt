@@ -6,7 +6,7 @@ use Rattle.chunked.specs.Served.{Servable, offered, serving, storing}
 use Rattle.chunked.specs.Spans.{in_span}
 use Rattle.settle.proofs.Settled.{at as places_at}
 use Rattle.chunked.proofs.Fetching.{put_rest}
-use Rattle.chunked.proofs.Serving.{at_zero, clear-chunk, clear-sparse, leaves-served, picked_is, sparse, straight, through, written_within}
+use Rattle.chunked.proofs.Serving.{at_zero, clear_chunk, clear_sparse, leaves_served, picked_is, sparse, straight, through, written_within}
 use Rattle.chunked.proofs.serve.serve_chunk_runs.Goals as goal
 
 pub fetch-indices-requires : goal.fetch-indices-requires
@@ -25,7 +25,7 @@ fetch-indices-requires g c =
     let few = c.if-n-limit.true in
     let room = written_within L s at chunk ys c.requires.servable in
     let js = picked_is c.spread-runs.new.out _ (map (shifted 0 (chunk * 1024)) ys) c.args.n c.spread-runs.ensures (length-map ys (shifted 0 (chunk * 1024)) ∙ sym count) in
-    record { within = omega arith; clear = clear-sparse L s at chunk 0 ys ok whole _ js (omega arith) }
+    record { within = omega arith; clear = clear_sparse L s at chunk 0 ys ok whole _ js (omega arith) }
 
 pub fetch-chunk-requires : goal.fetch-chunk-requires
 fetch-chunk-requires g c =
@@ -44,7 +44,7 @@ fetch-chunk-requires g c =
     let all = c.if-n-eq-CHUNK.true in
     let room = written_within L s at chunk ys c.requires.servable in
     let rest = length-drop at c.args.output.now in
-    record { within = omega arith; clear = clear-chunk L s at chunk ys c.requires.servable (drop at c.args.output.now) (omega arith) (omega arith) }
+    record { within = omega arith; clear = clear_chunk L s at chunk ys c.requires.servable (drop at c.args.output.now) (omega arith) (omega arith) }
 
 pub fetch-chunk-requires-else-n-eq-CHUNK : goal.fetch-chunk-requires-else-n-eq-CHUNK
 fetch-chunk-requires-else-n-eq-CHUNK g c =
@@ -60,7 +60,7 @@ fetch-chunk-requires-else-n-eq-CHUNK g c =
     let count = c.requires.count in
     let same = ap length plain in
     let more = c.if-n-limit.false in
-    record { within = omega arith; clear = clear-chunk L s at chunk ys c.requires.servable c.args.scratch.now c.requires.servable.room (omega arith) }
+    record { within = omega arith; clear = clear_chunk L s at chunk ys c.requires.servable c.args.scratch.now c.requires.servable.room (omega arith) }
 
 pub returns-then-n-limit : goal.returns-then-n-limit
 returns-then-n-limit g c =
@@ -78,7 +78,7 @@ returns-then-n-limit g c =
     let e = c.fetch-indices.ensures in
     let few = c.if-n-limit.true in
     let js = picked_is c.spread-runs.new.out _ (map (shifted 0 (chunk * 1024)) ys) c.args.n c.spread-runs.ensures (length-map ys (shifted 0 (chunk * 1024)) ∙ sym count) in
-    leaves-served L s at chunk (places_at 0 ys) ok _ _ _ _ (sparse L s at chunk 0 ys ok whole _ _ _ _ (omega arith) js (record { kept = e.kept; paid = e.paid; wrote = e.wrote })) ∙ ap (serving L s at) plain
+    leaves_served L s at chunk (places_at 0 ys) ok _ _ _ _ (sparse L s at chunk 0 ys ok whole _ _ _ _ (omega arith) js (record { kept = e.kept; paid = e.paid; wrote = e.wrote })) ∙ ap (serving L s at) plain
 
 pub returns-then-n-eq-CHUNK : goal.returns-then-n-eq-CHUNK
 returns-then-n-eq-CHUNK g c =
@@ -96,7 +96,7 @@ returns-then-n-eq-CHUNK g c =
     let e = c.fetch-chunk.ensures in
     let more = c.if-n-limit.false in
     let all = c.if-n-eq-CHUNK.true in
-    leaves-served L s at chunk ys c.requires.servable _ _ _ _ (straight L s at chunk ys c.requires.servable whole _ _ _ (omega arith) (omega arith) (record { kept = e.kept; paid = e.paid; wrote = e.wrote }))
+    leaves_served L s at chunk ys c.requires.servable _ _ _ _ (straight L s at chunk ys c.requires.servable whole _ _ _ (omega arith) (omega arith) (record { kept = e.kept; paid = e.paid; wrote = e.wrote }))
 
 pub returns-else-n-eq-CHUNK : goal.returns-else-n-eq-CHUNK
 returns-else-n-eq-CHUNK g c =
@@ -116,4 +116,4 @@ returns-else-n-eq-CHUNK g c =
     let not-all = c.if-n-eq-CHUNK.false in
     let part = c.copy-runs.new.dst in
     let copied = c.copy-runs.ensures ∙ ap (λ zs. splice zs 0 (gather c.fetch-chunk-else-n-eq-CHUNK.new.output (map (shifted 0 (chunk * 1024)) ys))) (take_rest s.output at) in
-    leaves-served L s at chunk (places_at 0 ys) ok _ _ _ _ (through L s at chunk 0 ys ok whole _ _ part _ _ (omega arith) (λ x. not-all (count ∙ x)) (record { kept = e.kept; paid = e.paid; wrote = e.wrote }) copied (put_rest s.output part at)) ∙ ap (serving L s at) plain
+    leaves_served L s at chunk (places_at 0 ys) ok _ _ _ _ (through L s at chunk 0 ys ok whole _ _ part _ _ (omega arith) (λ x. not-all (count ∙ x)) (record { kept = e.kept; paid = e.paid; wrote = e.wrote }) copied (put_rest s.output part at)) ∙ ap (serving L s at) plain

@@ -10,7 +10,7 @@ use Rattle.chunked.specs.Served.{Servable, offered, serving, storing}
 use Rattle.settle.proofs.Settled.{at as places_at}
 use Rattle.chunked.proofs.Windows.{words_back}
 use Rattle.chunked.proofs.Fetching.{put_rest}
-use Rattle.chunked.proofs.Serving.{at_zero, clear-chunk, clear-sparse, leaves-served, picked_is, sparse, straight, through, written_within}
+use Rattle.chunked.proofs.Serving.{at_zero, clear_chunk, clear_sparse, leaves_served, picked_is, sparse, straight, through, written_within}
 use Rattle.chunked.proofs.serve.serve_chunk_words.Goals as goal
 
 pub fetch-indices-requires : goal.fetch-indices-requires
@@ -33,7 +33,7 @@ fetch-indices-requires g c =
     let few = c.if-n-limit.true in
     let room = written_within L s at chunk ys c.requires.servable in
     let js = picked_is c.list-words.new.out _ (map (shifted up 0) mp) c.args.n c.list-words.ensures.written (length-map mp (shifted up 0) ∙ sym count) ∙ back in
-    record { within = omega arith; clear = clear-sparse L s at chunk 0 ys ok whole _ js (omega arith) }
+    record { within = omega arith; clear = clear_sparse L s at chunk 0 ys ok whole _ js (omega arith) }
 
 pub fetch-chunk-requires : goal.fetch-chunk-requires
 fetch-chunk-requires g c =
@@ -56,7 +56,7 @@ fetch-chunk-requires g c =
     let all = c.if-n-eq-CHUNK.true in
     let room = written_within L s at chunk ys c.requires.servable in
     let rest = length-drop at c.args.output.now in
-    record { within = omega arith; clear = clear-chunk L s at chunk ys c.requires.servable (drop at c.args.output.now) (omega arith) (omega arith) }
+    record { within = omega arith; clear = clear_chunk L s at chunk ys c.requires.servable (drop at c.args.output.now) (omega arith) (omega arith) }
 
 pub fetch-chunk-requires-else-n-eq-CHUNK : goal.fetch-chunk-requires-else-n-eq-CHUNK
 fetch-chunk-requires-else-n-eq-CHUNK g c =
@@ -76,7 +76,7 @@ fetch-chunk-requires-else-n-eq-CHUNK g c =
     let size = length-map mp (moved (chunk * 1024 + up)) in
     let back = words_back c.args.words.now c.args.len chunk up in
     let more = c.if-n-limit.false in
-    record { within = omega arith; clear = clear-chunk L s at chunk ys c.requires.servable c.args.scratch.now c.requires.servable.room (omega arith) }
+    record { within = omega arith; clear = clear_chunk L s at chunk ys c.requires.servable c.args.scratch.now c.requires.servable.room (omega arith) }
 
 pub returns-then-n-limit : goal.returns-then-n-limit
 returns-then-n-limit g c =
@@ -98,7 +98,7 @@ returns-then-n-limit g c =
     let e = c.fetch-indices.ensures in
     let few = c.if-n-limit.true in
     let js = picked_is c.list-words.new.out _ (map (shifted up 0) mp) c.args.n c.list-words.ensures.written (length-map mp (shifted up 0) ∙ sym count) ∙ back in
-    leaves-served L s at chunk (places_at 0 ys) ok _ _ _ _ (sparse L s at chunk 0 ys ok whole _ _ _ _ (omega arith) js (record { kept = e.kept; paid = e.paid; wrote = e.wrote })) ∙ ap (serving L s at) plain
+    leaves_served L s at chunk (places_at 0 ys) ok _ _ _ _ (sparse L s at chunk 0 ys ok whole _ _ _ _ (omega arith) js (record { kept = e.kept; paid = e.paid; wrote = e.wrote })) ∙ ap (serving L s at) plain
 
 pub returns-then-n-eq-CHUNK : goal.returns-then-n-eq-CHUNK
 returns-then-n-eq-CHUNK g c =
@@ -120,7 +120,7 @@ returns-then-n-eq-CHUNK g c =
     let e = c.fetch-chunk.ensures in
     let more = c.if-n-limit.false in
     let all = c.if-n-eq-CHUNK.true in
-    leaves-served L s at chunk ys c.requires.servable _ _ _ _ (straight L s at chunk ys c.requires.servable whole _ _ _ (omega arith) (omega arith) (record { kept = e.kept; paid = e.paid; wrote = e.wrote }))
+    leaves_served L s at chunk ys c.requires.servable _ _ _ _ (straight L s at chunk ys c.requires.servable whole _ _ _ (omega arith) (omega arith) (record { kept = e.kept; paid = e.paid; wrote = e.wrote }))
 
 pub list-words-requires : goal.list-words-requires
 list-words-requires g c =
@@ -166,8 +166,8 @@ compact-words-requires g c =
     let long = c.fetch-chunk-else-n-eq-CHUNK.auto.output in
     let scratch = c.requires.servable.room in
     let inside = c.requires.inside in
-    let part-is : src ≡ take c.args.len (drop up aside) = ap (λ m. take m (drop up aside)) (let e : up + c.args.len - up ≡ c.args.len = omega arith in e) in
-    let src-long : length src ≡ c.args.len = ap length part-is ∙ length-take c.args.len (drop up aside) ∙ (let rest = length-drop up aside in omega arith) in
+    let part_is : src ≡ take c.args.len (drop up aside) = ap (λ m. take m (drop up aside)) (let e : up + c.args.len - up ≡ c.args.len = omega arith in e) in
+    let src-long : length src ≡ c.args.len = ap length part_is ∙ length-take c.args.len (drop up aside) ∙ (let rest = length-drop up aside in omega arith) in
     let room = written_within L s at chunk ys c.requires.servable in
     let rest = ap length (take_rest c.args.output.now at) ∙ length-drop at c.args.output.now in
     let same_count : length (mask_positions c.args.words.now (length src)) ≡ length mp = ap (λ m. length (mask_positions c.args.words.now m)) src-long in
@@ -196,12 +196,12 @@ returns-else-n-eq-CHUNK g c =
     let long = c.fetch-chunk-else-n-eq-CHUNK.auto.output in
     let scratch = c.requires.servable.room in
     let inside = c.requires.inside in
-    let part-is : src ≡ take c.args.len (drop up aside) = ap (λ m. take m (drop up aside)) (let e : up + c.args.len - up ≡ c.args.len = omega arith in e) in
-    let src-long : length src ≡ c.args.len = ap length part-is ∙ length-take c.args.len (drop up aside) ∙ (let rest = length-drop up aside in omega arith) in
+    let part_is : src ≡ take c.args.len (drop up aside) = ap (λ m. take m (drop up aside)) (let e : up + c.args.len - up ≡ c.args.len = omega arith in e) in
+    let src-long : length src ≡ c.args.len = ap length part_is ∙ length-take c.args.len (drop up aside) ∙ (let rest = length-drop up aside in omega arith) in
     let e = c.fetch-chunk-else-n-eq-CHUNK.ensures in
     let more = c.if-n-limit.false in
     let not-all = c.if-n-eq-CHUNK.false in
     let part = c.compact-words.new.dst in
-    let values : gather src (mask_positions c.args.words.now (length src)) ≡ gather aside (map (shifted 0 (chunk * 1024)) ys) = ap₂ (λ xs m. gather xs (mask_positions c.args.words.now m)) part-is src-long ∙ gather_slice aside up c.args.len mp (positions_inside c.args.words.now c.args.len) ∙ ap (gather aside) back in
+    let values : gather src (mask_positions c.args.words.now (length src)) ≡ gather aside (map (shifted 0 (chunk * 1024)) ys) = ap₂ (λ xs m. gather xs (mask_positions c.args.words.now m)) part_is src-long ∙ gather_slice aside up c.args.len mp (positions_inside c.args.words.now c.args.len) ∙ ap (gather aside) back in
     let copied = c.compact-words.ensures.written ∙ ap₂ (λ zs vs. splice zs 0 vs) (take_rest s.output at) values in
-    leaves-served L s at chunk (places_at 0 ys) ok _ _ _ _ (through L s at chunk 0 ys ok whole _ _ part _ _ (omega arith) (λ x. not-all (count ∙ sym size ∙ x)) (record { kept = e.kept; paid = e.paid; wrote = e.wrote }) copied (put_rest s.output part at)) ∙ ap (serving L s at) plain
+    leaves_served L s at chunk (places_at 0 ys) ok _ _ _ _ (through L s at chunk 0 ys ok whole _ _ part _ _ (omega arith) (λ x. not-all (count ∙ sym size ∙ x)) (record { kept = e.kept; paid = e.paid; wrote = e.wrote }) copied (put_rest s.output part at)) ∙ ap (serving L s at) plain

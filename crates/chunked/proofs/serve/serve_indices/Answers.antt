@@ -6,8 +6,8 @@ use Rattle.kernels.specs.Moved.{limit_at_width}
 use Rattle.settle.specs.Pushes.{moved}
 use Rattle.chunked.specs.Served.{Servable, offered, serving, storing}
 use Rattle.settle.proofs.Settled.{at}
-use Rattle.chunked.proofs.Cuts.{below-limit, between_at, cut-here}
-use Rattle.chunked.proofs.Serving.{Serves, cut-servable, granted, room-left, serves_all, serves_more, serving_none}
+use Rattle.chunked.proofs.Cuts.{below_limit, between_at, cut_here}
+use Rattle.chunked.proofs.Serving.{Serves, cut_servable, granted, room_left, serves_all, serves_more, serving_none}
 use Rattle.chunked.proofs.serve.serve_indices.Goals as goal
 
 pub loop-i-init : goal.loop-i-init
@@ -17,14 +17,14 @@ loop-i-init g c =
 
 pub overflow-add-chunk : goal.overflow-add-chunk
 overflow-add-chunk g c =
-    let less = below-limit c.args.offset c.args.indices.now c.requires.rising c.requires.small c.loop-i.i c.loop-i-test.true in
+    let less = below_limit c.args.offset c.args.indices.now c.requires.rising c.requires.small c.loop-i.i c.loop-i-test.true in
     let small = c.requires.small in
     let fits : get_or c.args.indices.now c.loop-i.i 0 + c.args.offset < 2 ^ 64 = omega arith in
     search rules
 
 pub overflow-mul-chunk : goal.overflow-mul-chunk
 overflow-mul-chunk g c =
-    let less = below-limit c.args.offset c.args.indices.now c.requires.rising c.requires.small c.loop-i.i c.loop-i-test.true in
+    let less = below_limit c.args.offset c.args.indices.now c.requires.rising c.requires.small c.loop-i.i c.loop-i-test.true in
     let small = c.requires.small in
     let fits : ((get_or c.args.indices.now c.loop-i.i 0 + c.args.offset) / 1024 + 1) * 1024 < 2 ^ 64 = omega arith in
     search rules
@@ -41,11 +41,11 @@ overflow-add-at g c =
     let j = c.end-below-end.result in
     let chunk = (get_or is i 0 + offset) / 1024 in
     let e = c.end-below-end.ensures in
-    let k = cut-here offset is c.requires.rising c.requires.small i j chunk c.loop-i-test.true refl c.loop-i.invariant.parted e.within.0 e.within.1 e.below e.past in
+    let k = cut_here offset is c.requires.rising c.requires.small i j chunk c.loop-i-test.true refl c.loop-i.invariant.parted e.within.0 e.within.1 e.below e.past in
     let up = rising_shifted offset 0 16777216 is c.requires.rising in
     let ok = granted (offered L s c.args.at) ps c.requires.granted in
     let whole = g.D.ChunkDecoder.whole c.args.source.now in
-    let room = room-left L s t c.args.at ps i j chunk _ _ c.loop-i.invariant k up ok whole c.requires.room in
+    let room = room_left L s t c.args.at ps i j chunk _ _ c.loop-i.invariant k up ok whole c.requires.room in
     let long : length c.args.output.now < 2 ^ 64 = search rules in
     let more = k.more in
     let fits : c.args.at + i < 2 ^ 64 = omega arith in
@@ -63,11 +63,11 @@ serve-chunk-indices-requires g c =
     let j = c.end-below-end.result in
     let chunk = (get_or is i 0 + offset) / 1024 in
     let e = c.end-below-end.ensures in
-    let k = cut-here offset is c.requires.rising c.requires.small i j chunk c.loop-i-test.true refl c.loop-i.invariant.parted e.within.0 e.within.1 e.below e.past in
+    let k = cut_here offset is c.requires.rising c.requires.small i j chunk c.loop-i-test.true refl c.loop-i.invariant.parted e.within.0 e.within.1 e.below e.past in
     let up = rising_shifted offset 0 16777216 is c.requires.rising in
     let ok = granted (offered L s c.args.at) ps c.requires.granted in
     let whole = g.D.ChunkDecoder.whole c.args.source.now in
-    let part : Servable (offered L t (c.args.at + i)) chunk (between i j ps) = cut-servable L s t c.args.at ps i j chunk _ _ c.loop-i.invariant k up ok whole c.requires.room in
+    let part : Servable (offered L t (c.args.at + i)) chunk (between i j ps) = cut_servable L s t c.args.at ps i j chunk _ _ c.loop-i.invariant k up ok whole c.requires.room in
     rw (between_at offset is i j) part
 
 pub loop-i-preserved : goal.loop-i-preserved
@@ -82,7 +82,7 @@ loop-i-preserved g c =
     let j = c.end-below-end.result in
     let chunk = (get_or is i 0 + offset) / 1024 in
     let e = c.end-below-end.ensures in
-    let k = cut-here offset is c.requires.rising c.requires.small i j chunk c.loop-i-test.true refl c.loop-i.invariant.parted e.within.0 e.within.1 e.below e.past in
+    let k = cut_here offset is c.requires.rising c.requires.small i j chunk c.loop-i-test.true refl c.loop-i.invariant.parted e.within.0 e.within.1 e.below e.past in
     let up = rising_shifted offset 0 16777216 is c.requires.rising in
     let ok = granted (offered L s c.args.at) ps c.requires.granted in
     let whole = g.D.ChunkDecoder.whole c.args.source.now in
@@ -102,7 +102,7 @@ loop-i-smaller g c =
     let j = c.end-below-end.result in
     let chunk = (get_or is i 0 + offset) / 1024 in
     let e = c.end-below-end.ensures in
-    let k = cut-here offset is c.requires.rising c.requires.small i j chunk c.loop-i-test.true refl c.loop-i.invariant.parted e.within.0 e.within.1 e.below e.past in
+    let k = cut_here offset is c.requires.rising c.requires.small i j chunk c.loop-i-test.true refl c.loop-i.invariant.parted e.within.0 e.within.1 e.below e.past in
     let more = k.more in
     omega arith
 

@@ -5,15 +5,15 @@ use Rattle.kernels.specs.Moved.{limit_at_width}
 use Rattle.chunked.specs.Served.{Servable, offered, serving, storing}
 use Rattle.chunked.specs.Spans.{in_span}
 use Rattle.settle.proofs.Settled.{run_places}
-use Rattle.chunked.proofs.Cursor.{cursor-cut, cursor-end, cursor-more, cursor-start, part-is, part-order, part-runs, part-spans, places_rise}
-use Rattle.chunked.proofs.Serving.{cut-servable, granted, room-left, serves_all, serves_more, serving_none}
+use Rattle.chunked.proofs.Cursor.{cursor_cut, cursor_end, cursor_more, cursor_start, part_is, part_order, part_runs, part_spans, places_rise}
+use Rattle.chunked.proofs.Serving.{cut_servable, granted, room_left, serves_all, serves_more, serving_none}
 use Rattle.chunked.proofs.Spanning.{runs_at}
 use Rattle.chunked.proofs.serve.serve_runs.Goals as goal
 
 pub loop-next-init : goal.loop-next-init
 loop-next-init g c =
     let s = storing (g.D.ChunkDecoder.readings c.args.source.now) (g.D.ChunkDecoder.allowance c.args.source.now) c.args.output.now c.args.scratch.now in
-    (record { within = omega arith; state = serving_none (limit_at_width g.D.Item.Element.bytes) s c.args.at; parted = λ k h. absurd (omega arith) }, cursor-start c.args.offset c.args.runs.now c.requires.rising c.requires.small)
+    (record { within = omega arith; state = serving_none (limit_at_width g.D.Item.Element.bytes) s c.args.at; parted = λ k h. absurd (omega arith) }, cursor_start c.args.offset c.args.runs.now c.requires.rising c.requires.small)
 
 pub overflow-add-runs : goal.overflow-add-runs
 overflow-add-runs g c =
@@ -68,14 +68,14 @@ overflow-add-at g c =
     let n = c.runs-below-part.result.count in
     let after = c.runs-below-part.result.next in
     let ps = run_places offset runs in
-    let k = cursor-cut offset runs c.requires.rising c.requires.small done next resume cursor here chunk n after which e.count e.next e.done c.loop-next.invariant.0.parted in
+    let k = cursor_cut offset runs c.requires.rising c.requires.small done next resume cursor here chunk n after which e.count e.next e.done c.loop-next.invariant.0.parted in
     let L = limit_at_width g.D.Item.Element.bytes in
     let s = storing (g.D.ChunkDecoder.readings c.args.source.now) (g.D.ChunkDecoder.allowance c.args.source.now) c.args.output.now c.args.scratch.now in
     let t = storing (g.D.ChunkDecoder.readings c.loop-next.source) (g.D.ChunkDecoder.allowance c.loop-next.source) c.loop-next.output c.loop-next.scratch in
     let up = places_rise offset runs c.requires.rising c.requires.small in
     let ok = granted (offered L s c.args.at) ps c.requires.granted in
     let whole = g.D.ChunkDecoder.whole c.args.source.now in
-    let room = room-left L s t c.args.at ps done (done + n) chunk _ _ c.loop-next.invariant.0 k up ok whole c.requires.room in
+    let room = room_left L s t c.args.at ps done (done + n) chunk _ _ c.loop-next.invariant.0 k up ok whole c.requires.room in
     let long : length c.args.output.now < 2 ^ 64 = search rules in
     let more = k.more in
     let fits : c.args.at + done < 2 ^ 64 = omega arith in
@@ -96,14 +96,14 @@ overflow-add-done g c =
     let n = c.runs-below-part.result.count in
     let after = c.runs-below-part.result.next in
     let ps = run_places offset runs in
-    let k = cursor-cut offset runs c.requires.rising c.requires.small done next resume cursor here chunk n after which e.count e.next e.done c.loop-next.invariant.0.parted in
+    let k = cursor_cut offset runs c.requires.rising c.requires.small done next resume cursor here chunk n after which e.count e.next e.done c.loop-next.invariant.0.parted in
     let L = limit_at_width g.D.Item.Element.bytes in
     let s = storing (g.D.ChunkDecoder.readings c.args.source.now) (g.D.ChunkDecoder.allowance c.args.source.now) c.args.output.now c.args.scratch.now in
     let t = storing (g.D.ChunkDecoder.readings c.loop-next.source) (g.D.ChunkDecoder.allowance c.loop-next.source) c.loop-next.output c.loop-next.scratch in
     let up = places_rise offset runs c.requires.rising c.requires.small in
     let ok = granted (offered L s c.args.at) ps c.requires.granted in
     let whole = g.D.ChunkDecoder.whole c.args.source.now in
-    let room = room-left L s t c.args.at ps done (done + n) chunk _ _ c.loop-next.invariant.0 k up ok whole c.requires.room in
+    let room = room_left L s t c.args.at ps done (done + n) chunk _ _ c.loop-next.invariant.0 k up ok whole c.requires.room in
     let long : length c.args.output.now < 2 ^ 64 = search rules in
     let more = k.more in
     let fits : done + n < 2 ^ 64 = omega arith in
@@ -124,7 +124,7 @@ serve-chunk-runs-requires g c =
     let n = c.runs-below-part.result.count in
     let after = c.runs-below-part.result.next in
     let ps = run_places offset runs in
-    let k = cursor-cut offset runs c.requires.rising c.requires.small done next resume cursor here chunk n after which e.count e.next e.done c.loop-next.invariant.0.parted in
+    let k = cursor_cut offset runs c.requires.rising c.requires.small done next resume cursor here chunk n after which e.count e.next e.done c.loop-next.invariant.0.parted in
     let L = limit_at_width g.D.Item.Element.bytes in
     let s = storing (g.D.ChunkDecoder.readings c.args.source.now) (g.D.ChunkDecoder.allowance c.args.source.now) c.args.output.now c.args.scratch.now in
     let t = storing (g.D.ChunkDecoder.readings c.loop-next.source) (g.D.ChunkDecoder.allowance c.loop-next.source) c.loop-next.output c.loop-next.scratch in
@@ -132,13 +132,13 @@ serve-chunk-runs-requires g c =
     let ok = granted (offered L s c.args.at) ps c.requires.granted in
     let whole = g.D.ChunkDecoder.whole c.args.source.now in
     let last = c.min-last.result in
-    let same = part-runs offset runs c.requires.rising c.requires.small done next resume cursor here chunk n after which e.count e.next e.done last c.min-last.ensures e.past in
-    let part = part-is offset runs c.requires.rising c.requires.small done next resume cursor here chunk n after which e.count e.next e.done in
+    let same = part_runs offset runs c.requires.rising c.requires.small done next resume cursor here chunk n after which e.count e.next e.done last c.min-last.ensures e.past in
+    let part = part_is offset runs c.requires.rising c.requires.small done next resume cursor here chunk n after which e.count e.next e.done in
     let both : between done (done + n) ps ≡ in_span offset resume ((chunk + 1) * 1024) (between next last runs) = part ∙ sym same in
-    let servable : Servable (offered L t (c.args.at + done)) chunk (between done (done + n) ps) = cut-servable L s t c.args.at ps done (done + n) chunk _ _ c.loop-next.invariant.0 k up ok whole c.requires.room in
+    let servable : Servable (offered L t (c.args.at + done)) chunk (between done (done + n) ps) = cut_servable L s t c.args.at ps done (done + n) chunk _ _ c.loop-next.invariant.0 k up ok whole c.requires.room in
     record {
       servable = subst (Servable (offered L t (c.args.at + done)) chunk) both servable;
-      runs = part-spans offset runs c.requires.rising c.requires.small done next resume cursor here chunk n after which e.count e.next e.done last c.min-last.ensures e.past;
+      runs = part_spans offset runs c.requires.rising c.requires.small done next resume cursor here chunk n after which e.count e.next e.done last c.min-last.ensures e.past;
       count = e.count ∙ ap length (sym same);
     }
 
@@ -157,7 +157,7 @@ loop-next-preserved g c =
     let n = c.runs-below-part.result.count in
     let after = c.runs-below-part.result.next in
     let ps = run_places offset runs in
-    let k = cursor-cut offset runs c.requires.rising c.requires.small done next resume cursor here chunk n after which e.count e.next e.done c.loop-next.invariant.0.parted in
+    let k = cursor_cut offset runs c.requires.rising c.requires.small done next resume cursor here chunk n after which e.count e.next e.done c.loop-next.invariant.0.parted in
     let L = limit_at_width g.D.Item.Element.bytes in
     let s = storing (g.D.ChunkDecoder.readings c.args.source.now) (g.D.ChunkDecoder.allowance c.args.source.now) c.args.output.now c.args.scratch.now in
     let t = storing (g.D.ChunkDecoder.readings c.loop-next.source) (g.D.ChunkDecoder.allowance c.loop-next.source) c.loop-next.output c.loop-next.scratch in
@@ -165,13 +165,13 @@ loop-next-preserved g c =
     let ok = granted (offered L s c.args.at) ps c.requires.granted in
     let whole = g.D.ChunkDecoder.whole c.args.source.now in
     let last = c.min-last.result in
-    let same = part-runs offset runs c.requires.rising c.requires.small done next resume cursor here chunk n after which e.count e.next e.done last c.min-last.ensures e.past in
-    let part = part-is offset runs c.requires.rising c.requires.small done next resume cursor here chunk n after which e.count e.next e.done in
+    let same = part_runs offset runs c.requires.rising c.requires.small done next resume cursor here chunk n after which e.count e.next e.done last c.min-last.ensures e.past in
+    let part = part_is offset runs c.requires.rising c.requires.small done next resume cursor here chunk n after which e.count e.next e.done in
     let both : between done (done + n) ps ≡ in_span offset resume ((chunk + 1) * 1024) (between next last runs) = part ∙ sym same in
     let src = c.serve-chunk-runs.new.source in
     let u = storing (g.D.ChunkDecoder.readings src) (g.D.ChunkDecoder.allowance src) c.serve-chunk-runs.new.output c.serve-chunk-runs.new.scratch in (
       serves_more L s t c.args.at ps done (done + n) chunk _ _ c.loop-next.invariant.0 k up ok whole c.requires.room u (c.serve-chunk-runs.ensures ∙ ap (serving L t (c.args.at + done)) (sym both)),
-      cursor-more offset runs c.requires.rising c.requires.small done next resume cursor here chunk n after which e.count e.next e.done e.past,
+      cursor_more offset runs c.requires.rising c.requires.small done next resume cursor here chunk n after which e.count e.next e.done e.past,
     )
 
 pub loop-next-smaller : goal.loop-next-smaller
@@ -189,12 +189,12 @@ loop-next-smaller g c =
     let n = c.runs-below-part.result.count in
     let after = c.runs-below-part.result.next in
     let ps = run_places offset runs in
-    let k = cursor-cut offset runs c.requires.rising c.requires.small done next resume cursor here chunk n after which e.count e.next e.done c.loop-next.invariant.0.parted in
+    let k = cursor_cut offset runs c.requires.rising c.requires.small done next resume cursor here chunk n after which e.count e.next e.done c.loop-next.invariant.0.parted in
     let more = k.more in
     let within = k.within in
     omega arith
 
 pub returns : goal.returns
 returns g c =
-    let ended = cursor-end c.args.offset c.args.runs.now c.requires.rising c.requires.small c.loop-next.done c.loop-next.next c.loop-next.resume c.loop-next.invariant.1 c.loop-next-test.false in
+    let ended = cursor_end c.args.offset c.args.runs.now c.requires.rising c.requires.small c.loop-next.done c.loop-next.next c.loop-next.resume c.loop-next.invariant.1 c.loop-next-test.false in
     serves_all (limit_at_width g.D.Item.Element.bytes) _ _ c.args.at (run_places c.args.offset c.args.runs.now) c.loop-next.done c.loop-next.invariant.0 ended

@@ -7,7 +7,7 @@ use Rattle.std.proofs.lemmas.List.{length-drop, length-map, length-take, map-app
 use Rattle.selection.specs.Selected.{no_run}
 use Rattle.kernels.specs.Moved.{gather, shifted, splice}
 use Rattle.chunked.specs.Spans.{Spans, in_span, span_end, span_start, spanned}
-use Rattle.chunked.proofs.Spanning.{counting_less, put_more, span-take-count, span-take-more, span_take_most}
+use Rattle.chunked.proofs.Spanning.{counting_less, put_more, span_take_count, span_take_more, span_take_most}
 use Rattle.chunked.proofs.serve.spread_runs.Goals as goal
 
 pub cut-run-piece-requires : goal.cut-run-piece-requires
@@ -36,7 +36,7 @@ overflow-sub-n c =
     let b : c.cut-run-piece.result.«end» ≡ span_end offset hi r = ap (λ x. x.«end») c.cut-run-piece.ensures in
     let ordered = ok.ordered in
     let above = ok.above in
-    let count = span-take-count offset lo hi runs i here in
+    let count = span_take_count offset lo hi runs i here in
     let most = span_take_most offset lo hi runs (i + 1) in
     let room = c.requires.room in
     let bound = c.requires.bound in
@@ -59,7 +59,7 @@ overflow-add-at c =
     let b : c.cut-run-piece.result.«end» ≡ span_end offset hi r = ap (λ x. x.«end») c.cut-run-piece.ensures in
     let ordered = ok.ordered in
     let above = ok.above in
-    let count = span-take-count offset lo hi runs i here in
+    let count = span_take_count offset lo hi runs i here in
     let most = span_take_most offset lo hi runs (i + 1) in
     let room = c.requires.room in
     let bound = c.requires.bound in
@@ -82,7 +82,7 @@ offset-bounds-out-at c =
     let b : c.cut-run-piece.result.«end» ≡ span_end offset hi r = ap (λ x. x.«end») c.cut-run-piece.ensures in
     let ordered = ok.ordered in
     let above = ok.above in
-    let count = span-take-count offset lo hi runs i here in
+    let count = span_take_count offset lo hi runs i here in
     let most = span_take_most offset lo hi runs (i + 1) in
     let room = c.requires.room in
     let bound = c.requires.bound in
@@ -105,7 +105,7 @@ slice-bounds-fill-counting-end c =
     let b : c.cut-run-piece.result.«end» ≡ span_end offset hi r = ap (λ x. x.«end») c.cut-run-piece.ensures in
     let ordered = ok.ordered in
     let above = ok.above in
-    let count = span-take-count offset lo hi runs i here in
+    let count = span_take_count offset lo hi runs i here in
     let most = span_take_most offset lo hi runs (i + 1) in
     let room = c.requires.room in
     let bound = c.requires.bound in
@@ -128,7 +128,7 @@ overflow-sub-piece c =
     let b : c.cut-run-piece.result.«end» ≡ span_end offset hi r = ap (λ x. x.«end») c.cut-run-piece.ensures in
     let ordered = ok.ordered in
     let above = ok.above in
-    let count = span-take-count offset lo hi runs i here in
+    let count = span_take_count offset lo hi runs i here in
     let most = span_take_most offset lo hi runs (i + 1) in
     let room = c.requires.room in
     let bound = c.requires.bound in
@@ -151,7 +151,7 @@ overflow-add-at-in-loop-run c =
     let b : c.cut-run-piece.result.«end» ≡ span_end offset hi r = ap (λ x. x.«end») c.cut-run-piece.ensures in
     let ordered = ok.ordered in
     let above = ok.above in
-    let count = span-take-count offset lo hi runs i here in
+    let count = span_take_count offset lo hi runs i here in
     let most = span_take_most offset lo hi runs (i + 1) in
     let room = c.requires.room in
     let bound = c.requires.bound in
@@ -174,7 +174,7 @@ loop-run-preserved c =
     let b : c.cut-run-piece.result.«end» ≡ span_end offset hi r = ap (λ x. x.«end») c.cut-run-piece.ensures in
     let ordered = ok.ordered in
     let above = ok.above in
-    let count = span-take-count offset lo hi runs i here in
+    let count = span_take_count offset lo hi runs i here in
     let most = span_take_most offset lo hi runs (i + 1) in
     let room = c.requires.room in
     let inv = c.loop-run.invariant.0 in
@@ -191,7 +191,7 @@ loop-run-preserved c =
     let filled : c.fill-counting.new.out ≡ ws = c.fill-counting.ensures ∙ ap₂ range_with_len (ap (λ y. y - base) a) part-long ∙ counting_less base (span_start offset lo hi r) n above in
     let ws-long : length ws ≡ k = length-map (spanned offset lo hi r) (shifted 0 base) ∙ length-range_with_len (span_start offset lo hi r) n ∙ sym part-size in
     let vs-long : length vs ≡ at = length-map (in_span offset lo hi (take i runs)) (shifted 0 base) ∙ sym inv in
-    let all : map (shifted 0 base) (in_span offset lo hi (take (i + 1) runs)) ≡ vs ++ ws = ap (map (shifted 0 base)) (span-take-more offset lo hi runs i here) ∙ map-append (shifted 0 base) (in_span offset lo hi (take i runs)) (spanned offset lo hi r) in (
+    let all : map (shifted 0 base) (in_span offset lo hi (take (i + 1) runs)) ≡ vs ++ ws = ap (map (shifted 0 base)) (span_take_more offset lo hi runs i here) ∙ map-append (shifted 0 base) (in_span offset lo hi (take i runs)) (spanned offset lo hi r) in (
       omega arith,
       ap₂ (λ xs ys. put_mid at k xs ys) c.loop-run.invariant.1 filled ∙ put_more c.args.out.now vs ws at k vs-long ws-long ∙ ap (splice c.args.out.now 0) (sym all),
     )

@@ -1,7 +1,7 @@
 use Rattle.std.proofs.Common.{arith}
 use Rattle.kernels.specs.Moved.{limit_at_width}
 use Rattle.chunked.specs.Served.{state_of}
-use Rattle.runs.proofs.Noted.{Upto, upto_all, upto-more, upto_none}
+use Rattle.runs.proofs.Noted.{Upto, upto_all, upto_more, upto_none}
 use Rattle.runs.proofs.runs.push_all.Goals as goal
 
 pub loop-k-init : goal.loop-k-init
@@ -11,7 +11,7 @@ pub bounds-notes-k : goal.bounds-notes-k
 bounds-notes-k g c = let h = c.loop-k.invariant in let long = h.long in let t = c.loop-k-test.true in omega arith
 
 pub loop-k-preserved : goal.loop-k-preserved
-loop-k-preserved g c = upto-more _ _ _ _ _ _ c.loop-k.invariant _ _ _ c.loop-k-test.true c.push.ensures.value c.push.ensures.after
+loop-k-preserved g c = upto_more _ _ _ _ _ _ c.loop-k.invariant _ _ _ c.loop-k-test.true c.push.ensures.value c.push.ensures.after
 
 pub returns : goal.returns
 returns g c =

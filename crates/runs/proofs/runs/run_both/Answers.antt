@@ -3,7 +3,7 @@ use Rattle.kernels.specs.Moved.{limit_at_width}
 use Rattle.runs.specs.Runs.{ended_in, new_state}
 use Rattle.runs.proofs.Agreement.{agreement}
 use Rattle.runs.proofs.Fees.{limit_small}
-use Rattle.runs.proofs.Noted.{agree_by, ran-all}
+use Rattle.runs.proofs.Noted.{agree_by, ran_all}
 use Rattle.runs.proofs.runs.run_both.Goals as goal
 
 pub returns : goal.returns
@@ -21,7 +21,7 @@ returns g c =
       other = other.ensures.ran;
       firsts = (one.ensures.first, other.ensures.first);
       agreed = λ none none' alike same.
-          let all = ran-all L ps s c.args.notes.now _ _ _ one.ensures.ran none in
-          let all' = ran-all L qs t c.args.notes2.now _ _ _ other.ensures.ran none' in
+          let all = ran_all L ps s c.args.notes.now _ _ _ one.ensures.ran none in
+          let all' = ran_all L qs t c.args.notes2.now _ _ _ other.ensures.ran none' in
           agree_by all.0 all'.0 all.1 all'.1 (agreement L s t ps qs (limit_small w) one.ensures.fresh other.ensures.fresh alike same);
     }

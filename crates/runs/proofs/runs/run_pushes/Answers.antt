@@ -7,7 +7,7 @@ use Rattle.runs.specs.Runs.{after, answers, ended_in, new_state}
 use Rattle.runs.specs.Laws.{Fresh, Ran}
 use Rattle.runs.proofs.Balance.{balance}
 use Rattle.runs.proofs.Fees.{limit_small}
-use Rattle.runs.proofs.Noted.{ran, ran-balanced, ran-not, same_state}
+use Rattle.runs.proofs.Noted.{ran, ran_balanced, ran_not, same_state}
 use Rattle.runs.proofs.runs.run_pushes.Goals.{then-notes-n, else-notes-n}
 use Rattle.runs.proofs.runs.run_pushes.Goals as goal
 
@@ -29,13 +29,13 @@ returns g c =
     let new : state_of readings allowance c.new-filter.result c.args.output.now c.args.scratch.now ≡ s = same_state readings allowance c.new-filter.ensures refl refl in
     let r : Ran L ps s t before at.notes at.made =
     elim at.branch [
-      | then-notes-n w ↦ ran-not L ps s before t at.notes at.made w.if-notes-n.true (told ∙ same_state readings allowance w.filter-is w.output-is w.scratch-is ∙ new) w.notes-is w.made-is
+      | then-notes-n w ↦ ran_not L ps s before t at.notes at.made w.if-notes-n.true (told ∙ same_state readings allowance w.filter-is w.output-is w.scratch-is ∙ new) w.notes-is w.made-is
       | else-notes-n w ↦ ran L ps s before t at.notes w.push-all.new.notes at.made w.if-notes-n.false (told ∙ same_state readings allowance w.filter-is w.output-is w.scratch-is ∙ w.push-all.ensures.last ∙ ap (λ u. after L u ps) new) (w.push-all.ensures.noted ∙ ap (λ u. answers L u ps) new) (w.notes-is ∙ ap (λ n. w.push-all.new.notes ++ drop n before) (let e : length ps - 0 ≡ length ps = omega arith in e)) w.made-is
     ] in
-    let fresh : Fresh s = record { whole = g.D.ChunkDecoder.whole c.args.source; small = subst (λ n. n < 2 ^ 64) c.left-first.ensures c.left-first.type-inv; room = search rules; none_written = refl; none-paid = refl } in
+    let fresh : Fresh s = record { whole = g.D.ChunkDecoder.whole c.args.source; small = subst (λ n. n < 2 ^ 64) c.left-first.ensures c.left-first.type-inv; room = search rules; none_written = refl; none_paid = refl } in
     record {
       ran = r;
       first = c.left-first.ensures;
       fresh = fresh;
-      balanced = ran-balanced L ps s before t at.notes at.made r (balance L s ps (limit_small g.D.Item.Element.bytes) fresh);
+      balanced = ran_balanced L ps s before t at.notes at.made r (balance L s ps (limit_small g.D.Item.Element.bytes) fresh);
     }

@@ -4,5 +4,5 @@ use Rattle.selection.proofs.loads.field_at.Goals as goal
 
 pub returns : goal.returns
 returns c =
-    let few : c.min.result ≡ min (length c.args.bytes.now - c.args.at) 8 = c.min.ensures ∙ ap (λ n. min n 8) c.saturating-sub-there.ensures in
-    c.low-bits.ensures ∙ eight_num c.args.bytes.now c.args.at c.min.result c.low-word-low.result c.args.shift c.args.n c.low-word-low.ensures few c.requires.0
+    let few : c.min.result ≡ min (length c.args.bytes.now - c.args.at) 8 = c.min.ensures ∙ ap (λ n. min n 8) c.saturating_sub-there.ensures in
+    c.low_bits.ensures ∙ eight_num c.args.bytes.now c.args.at c.min.result c.low_word-low.result c.args.shift c.args.n c.low_word-low.ensures few c.requires.0

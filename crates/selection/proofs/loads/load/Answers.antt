@@ -6,5 +6,5 @@ pub returns : goal.returns
 returns c =
     let bytes = c.args.bytes.now in
     let i = c.args.at in
-    let small : (k : ℕ) → get_or bytes k 0 < 256 = λ k. (c.type-inv.bytes k).fits in
-    c.from-le-bytes.ensures ∙ word_num bytes i (small i) (small (i + 1)) (small (i + 2)) (small (i + 3)) (small (i + 4)) (small (i + 5)) (small (i + 6)) (small (i + 7))
+    let small : (k : ℕ) → get_or bytes k 0 < 256 = λ k. (c.type_inv.bytes k).fits in
+    c.from_le_bytes.ensures ∙ word_num bytes i (small i) (small (i + 1)) (small (i + 2)) (small (i + 3)) (small (i + 4)) (small (i + 5)) (small (i + 6)) (small (i + 7))

@@ -12,4 +12,4 @@ returns-else-size-lt9 c =
     let i = c.args.at + 8 in
     let start : 8 * i ≡ 8 * c.args.at + 64 = omega arith in
     let one : 8 ≡ 8 * (c.args.size - 8) = omega arith in
-    c.from.ensures ∙ byte_num c.args.bytes.now i (c.type-inv.bytes i).fits ∙ ap₂ (bits_from c.args.bytes.now) start one
+    c.from.ensures ∙ byte_num c.args.bytes.now i (c.type_inv.bytes i).fits ∙ ap₂ (bits_from c.args.bytes.now) start one

@@ -5,12 +5,12 @@ use Rattle.selection.proofs.Objections.{answered_ok}
 use Rattle.selection.proofs.Ranged.{ranged}
 use Rattle.selection.proofs.ranges.bitmap_range.Goals as goal
 
-pub returns-in-err-check : goal.returns-in-err-check
+pub returns-in_err-check : goal.returns-in_err-check
 unfolding selection_fault
-returns-in-err-check c = search rules
+returns-in_err-check c = search rules
 
 pub returns : goal.returns
 unfolding selection_fault
 returns c =
-    let e = c.window-ends.result in
-    ranged (Bitmap c.args.window) e.count e.start e.«end» c.run.result (answered_ok _ _ _ (sym c.in-ok-check.ensures)) c.window-ends.ensures c.run.ensures
+    let e = c.window_ends.result in
+    ranged (Bitmap c.args.window) e.count e.start e.«end» c.run.result (answered_ok _ _ _ (sym c.in_ok-check.ensures)) c.window_ends.ensures c.run.ensures

@@ -8,7 +8,7 @@ use Rattle.settle.specs.declared.settle.Receipt.{Receipt}
 use Rattle.settle.specs.Pushes.{fee, moved, past_source, receipt}
 use Rattle.settle.specs.Bounds.{boundary, kept_between_places}
 use Rattle.settle.specs.Tallies.{Tallied}
-use Rattle.settle.proofs.Bitmaps.{chunk-here, count_next, kept_few, kept_start, kept_whole, places-next, set_in_chunk}
+use Rattle.settle.proofs.Bitmaps.{chunk_here, count_next, kept_few, kept_start, kept_whole, places_next, set_in_chunk}
 use Rattle.settle.proofs.Settled.{at}
 use Rattle.settle.proofs.Tallying.{tallied_none, tallied_still}
 use Rattle.settle.proofs.settle.price_bitmap.Goals as goal
@@ -43,7 +43,7 @@ loop-chunk-preserved-then-n-eq0 c =
     let before = inv.1 in
     let part = kept_between_places q (boundary offset len chunk) (boundary offset len (chunk + 1)) in
     let none : length (at offset part) ≡ 0 = length-map part (moved offset) ∙ sym ones ∙ z in
-    (subst (Tallied t c.loop-chunk.tally) (sym (places-next q offset len chunk c.requires.small)) (tallied_still t c.loop-chunk.tally (at offset (kept_between_places q 0 (boundary offset len chunk))) (at offset part) none inv.0), omega arith, inv.2, omega arith)
+    (subst (Tallied t c.loop-chunk.tally) (sym (places_next q offset len chunk c.requires.small)) (tallied_still t c.loop-chunk.tally (at offset (kept_between_places q 0 (boundary offset len chunk))) (at offset part) none inv.0), omega arith, inv.2, omega arith)
 
 pub overflow-add-count : goal.overflow-add-count
 overflow-add-count c =
@@ -101,8 +101,8 @@ loop-chunk-preserved c =
     let current = c.take.ensures.current in
     let weight = c.take.ensures.weight in
     let part = kept_between_places q (boundary offset len chunk) (boundary offset len (chunk + 1)) in
-    let on = c.take.ensures.tallied (at offset (kept_between_places q 0 (boundary offset len chunk))) (at offset part) inv.0 (chunk-here q offset len chunk c.requires.small) (length-map part (moved offset) ∙ sym ones) in
-    (subst (Tallied t c.take.new.self) (sym (places-next q offset len chunk c.requires.small)) on, omega arith, omega arith, omega arith)
+    let on = c.take.ensures.tallied (at offset (kept_between_places q 0 (boundary offset len chunk))) (at offset part) inv.0 (chunk_here q offset len chunk c.requires.small) (length-map part (moved offset) ∙ sym ones) in
+    (subst (Tallied t c.take.new.self) (sym (places_next q offset len chunk c.requires.small)) on, omega arith, omega arith, omega arith)
 
 pub end-requires : goal.end-requires
 end-requires c =

@@ -6,7 +6,7 @@ use Rattle.selection.proofs.Faults.{window_within}
 use Rattle.selection.proofs.Objections.{answered_ok, answered_err, answered_value}
 use Rattle.settle.specs.declared.settle.Push.{Push}
 use Rattle.settle.specs.Pushes.{fee, past_source}
-use Rattle.settle.proofs.Settled.{by-grant, by-past, by-room, by-selection, places_window, roomy, window_formed}
+use Rattle.settle.proofs.Settled.{by_grant, by_past, by_room, by_selection, places_window, roomy, window_formed}
 use Rattle.settle.proofs.settle.settle_bitmap.Goals as goal
 
 pub returns-in-err-check : goal.returns-in-err-check
@@ -14,7 +14,7 @@ returns-in-err-check c =
     let t = c.args.terms.now in
     let p : Push = record { offset = c.args.offset; selection = Bitmap c.args.window } in
     let e = err_from_is_err_and c.from-residual.result c.from-residual.ensures.1 in
-    rw (e.1, e.2) (by-selection t p _ (window_formed c.args.window (Some _) (answered_err _ _ _ (sym c.in-err-check.ensures))))
+    rw (e.1, e.2) (by_selection t p _ (window_formed c.args.window (Some _) (answered_err _ _ _ (sym c.in-err-check.ensures))))
 
 pub returns-in-err-check-room : goal.returns-in-err-check-room
 returns-in-err-check-room c =
@@ -22,7 +22,7 @@ returns-in-err-check-room c =
     let p : Push = record { offset = c.args.offset; selection = Bitmap c.args.window } in
     let e = err_from_is_err_and c.from-residual-in-err-check-room.result c.from-residual-in-err-check-room.ensures.1 in
     let formed = window_formed c.args.window None (answered_ok _ _ _ (sym c.in-ok-check.ensures)) in
-    rw (e.1, e.2) (by-room t p formed _ (answered_err _ _ _ (sym c.in-err-check-room.ensures)))
+    rw (e.1, e.2) (by_room t p formed _ (answered_err _ _ _ (sym c.in-err-check-room.ensures)))
 
 pub price-bitmap-requires : goal.price-bitmap-requires
 price-bitmap-requires c =
@@ -40,7 +40,7 @@ returns-in-err-receipt c =
     let same = places_window c.args.offset c.args.window in
     let e = err_from_is_err_and c.from-residual-in-err-receipt.result c.from-residual-in-err-receipt.ensures.1 in
     let past = answered_err _ _ _ (sym c.in-err-receipt.ensures) in
-    rw (e.1, e.2) (by-past t p formed room _ (ap (first (past_source t.chunks)) same ∙ past))
+    rw (e.1, e.2) (by_past t p formed room _ (ap (first (past_source t.chunks)) same ∙ past))
 
 pub returns : goal.returns
 returns c =
@@ -54,4 +54,4 @@ returns c =
     let gave = answered_value _ _ _ (sym c.in-ok-receipt.ensures) in
     let r = c.in-ok-receipt.receipt in
     c.grant.ensures
-    ∙ by-grant t p formed room r.count r.fee (ap (first (past_source t.chunks)) same ∙ inside) (sym (ap length same ∙ ap (λ x. x.count) gave)) (sym (ap (fee t) same ∙ ap (λ x. x.fee) gave))
+    ∙ by_grant t p formed room r.count r.fee (ap (first (past_source t.chunks)) same ∙ inside) (sym (ap length same ∙ ap (λ x. x.count) gave)) (sym (ap (fee t) same ∙ ap (λ x. x.fee) gave))

@@ -7,18 +7,18 @@ use Rattle.selection.specs.declared.selections.Selection.TheVariants.{Indices}
 use Rattle.selection.specs.Refusals.{first}
 use Rattle.selection.specs.Selected.{index_fault, selection_fault}
 use Rattle.selection.proofs.Faults.{index_fine, index_says}
-use Rattle.selection.proofs.Objections.{answered_ok, answered_err, answered_value, count-stands, count-passes, count-ends}
+use Rattle.selection.proofs.Objections.{answered_ok, answered_err, answered_value, count_stands, count_passes, count_ends}
 use Rattle.settle.specs.declared.settle.Push.{Push}
 use Rattle.settle.specs.Pushes.{fee, moved, past_source, places}
 use Rattle.settle.specs.Tallies.{Tallied}
-use Rattle.settle.proofs.Settled.{at, at_more, by-grant, by-past, by-room, by-selection, indices-fault, indices-long, not_long, places-listed, roomy}
+use Rattle.settle.proofs.Settled.{at, at_more, by_grant, by_past, by_room, by_selection, indices_fault_is, indices_long, not_long, places_listed, roomy}
 use Rattle.settle.proofs.Tallying.{tallied_none}
 use Rattle.settle.proofs.settle.settle_indices.Goals as goal
 
 pub returns-in-err-check-len : goal.returns-in-err-check-len
 returns-in-err-check-len c =
     let e = err_from_is_err_and c.from-residual.result c.from-residual.ensures.1 in
-    rw (e.1, e.2) (by-selection c.args.terms.now (record { offset = c.args.offset; selection = Indices c.args.indices c.args.len }) _ (indices-long c.args.indices c.args.len _ (answered_err _ _ _ (sym c.in-err-check-len.ensures))))
+    rw (e.1, e.2) (by_selection c.args.terms.now (record { offset = c.args.offset; selection = Indices c.args.indices c.args.len }) _ (indices_long c.args.indices c.args.len _ (answered_err _ _ _ (sym c.in-err-check-len.ensures))))
 
 pub loop-place-init : goal.loop-place-init
 loop-place-init c =
@@ -34,7 +34,7 @@ returns-in-err-least c =
     let len = c.args.len in
     let e = err_from_is_err_and c.from-residual-in-err-least.result c.from-residual-in-err-least.ensures.1 in
     let fault = sym (index_says len xs k c.loop-place.least c.loop-place.invariant.0) ∙ answered_err _ _ _ (sym c.in-err-least.ensures) in
-    rw (e.1, e.2) (by-selection c.args.terms.now (record { offset = c.args.offset; selection = Indices c.args.indices len }) _ (indices-fault c.args.indices len (answered_ok _ _ _ (sym c.in-ok-check-len.ensures)) ∙ count-stands (index_fault len xs) k (length xs) c.loop-place.invariant.1 _ c.loop-place-test.true fault))
+    rw (e.1, e.2) (by_selection c.args.terms.now (record { offset = c.args.offset; selection = Indices c.args.indices len }) _ (indices_fault_is c.args.indices len (answered_ok _ _ _ (sym c.in-ok-check-len.ensures)) ∙ count_stands (index_fault len xs) k (length xs) c.loop-place.invariant.1 _ c.loop-place-test.true fault))
 
 pub loop-place-preserved : goal.loop-place-preserved
 loop-place-preserved c =
@@ -59,7 +59,7 @@ loop-place-preserved c =
     let weight = c.take.ensures.weight in
     let before = inv.4 in
     let rising = inv.5 in
-    (rw back (grind (arith, nat_tests)), count-passes (index_fault len xs) k (length xs) inv.1 c.loop-place-test.true fine, subst (Tallied t c.take.new.self) (sym (at_more up xs k c.loop-place-test.true)) on, omega arith, omega arith, omega arith, omega arith)
+    (rw back (grind (arith, nat_tests)), count_passes (index_fault len xs) k (length xs) inv.1 c.loop-place-test.true fine, subst (Tallied t c.take.new.self) (sym (at_more up xs k c.loop-place-test.true)) on, omega arith, omega arith, omega arith, omega arith)
 
 pub returns-in-err-check-room : goal.returns-in-err-check-room
 returns-in-err-check-room c =
@@ -68,8 +68,8 @@ returns-in-err-check-room c =
     let len = c.args.len in
     let p : Push = record { offset = c.args.offset; selection = Indices c.args.indices len } in
     let e = err_from_is_err_and c.from-residual-in-err-check-room.result c.from-residual-in-err-check-room.ensures.1 in
-    let formed : selection_fault (Indices c.args.indices len) ≡ None = indices-fault c.args.indices len (answered_ok _ _ _ (sym c.in-ok-check-len.ensures)) ∙ count-ends (index_fault len xs) c.loop-place.place (length xs) c.loop-place.invariant.1 c.loop-place-test.false in
-    rw (e.1, e.2) (by-room t p formed _ (answered_err _ _ _ (sym c.in-err-check-room.ensures)))
+    let formed : selection_fault (Indices c.args.indices len) ≡ None = indices_fault_is c.args.indices len (answered_ok _ _ _ (sym c.in-ok-check-len.ensures)) ∙ count_ends (index_fault len xs) c.loop-place.place (length xs) c.loop-place.invariant.1 c.loop-place-test.false in
+    rw (e.1, e.2) (by_room t p formed _ (answered_err _ _ _ (sym c.in-err-check-room.ensures)))
 
 pub end-requires : goal.end-requires
 end-requires c =
@@ -86,15 +86,15 @@ returns-in-err-fee c =
     let len = c.args.len in
     let offset = c.args.offset in
     let p : Push = record { offset = offset; selection = Indices c.args.indices len } in
-    let formed : selection_fault (Indices c.args.indices len) ≡ None = indices-fault c.args.indices len (answered_ok _ _ _ (sym c.in-ok-check-len.ensures)) ∙ count-ends (index_fault len xs) c.loop-place.place (length xs) c.loop-place.invariant.1 c.loop-place-test.false in
+    let formed : selection_fault (Indices c.args.indices len) ≡ None = indices_fault_is c.args.indices len (answered_ok _ _ _ (sym c.in-ok-check-len.ensures)) ∙ count_ends (index_fault len xs) c.loop-place.place (length xs) c.loop-place.invariant.1 c.loop-place-test.false in
     let room = answered_ok _ _ _ (sym c.in-ok-check-room.ensures) in
     let small = (roomy t.scratch offset room).0 in
     let up : c.min-up.result ≡ offset = let m = c.min-up.ensures in omega arith in
-    let whole : at c.min-up.result (take c.loop-place.place xs) ≡ places p = ap₂ at up (take_all c.loop-place.place xs c.loop-place-test.false) ∙ sym (places-listed offset c.args.indices len formed) in
+    let whole : at c.min-up.result (take c.loop-place.place xs) ≡ places p = ap₂ at up (take_all c.loop-place.place xs c.loop-place-test.false) ∙ sym (places_listed offset c.args.indices len formed) in
     let gave = c.in-err-fee.ensures (at c.min-up.result (take c.loop-place.place xs)) c.loop-place.invariant.2 in
     let e = err_from_is_err_and c.from-residual-in-err-fee.result c.from-residual-in-err-fee.ensures.1 in
     let past = answered_err _ _ _ (sym gave) in
-    rw (e.1, e.2) (by-past t p formed room _ (ap (first (past_source t.chunks)) (sym whole) ∙ past))
+    rw (e.1, e.2) (by_past t p formed room _ (ap (first (past_source t.chunks)) (sym whole) ∙ past))
 
 pub returns : goal.returns
 returns c =
@@ -103,14 +103,14 @@ returns c =
     let len = c.args.len in
     let offset = c.args.offset in
     let p : Push = record { offset = offset; selection = Indices c.args.indices len } in
-    let formed : selection_fault (Indices c.args.indices len) ≡ None = indices-fault c.args.indices len (answered_ok _ _ _ (sym c.in-ok-check-len.ensures)) ∙ count-ends (index_fault len xs) c.loop-place.place (length xs) c.loop-place.invariant.1 c.loop-place-test.false in
+    let formed : selection_fault (Indices c.args.indices len) ≡ None = indices_fault_is c.args.indices len (answered_ok _ _ _ (sym c.in-ok-check-len.ensures)) ∙ count_ends (index_fault len xs) c.loop-place.place (length xs) c.loop-place.invariant.1 c.loop-place-test.false in
     let room = answered_ok _ _ _ (sym c.in-ok-check-room.ensures) in
     let small = (roomy t.scratch offset room).0 in
     let up : c.min-up.result ≡ offset = let m = c.min-up.ensures in omega arith in
-    let listed = places-listed offset c.args.indices len formed in
+    let listed = places_listed offset c.args.indices len formed in
     let whole : at c.min-up.result (take c.loop-place.place xs) ≡ places p = ap₂ at up (take_all c.loop-place.place xs c.loop-place-test.false) ∙ sym listed in
     let gave = c.in-ok-fee.ensures (at c.min-up.result (take c.loop-place.place xs)) c.loop-place.invariant.2 in
     let inside = answered_ok _ _ _ (sym gave) in
     let cost = answered_value _ _ _ (sym gave) in
     c.grant.ensures
-    ∙ by-grant t p formed room (length xs) c.in-ok-fee.fee (ap (first (past_source t.chunks)) (sym whole) ∙ inside) (sym (ap length listed ∙ length-map xs (moved offset))) (sym (ap (fee t) (sym whole) ∙ cost))
+    ∙ by_grant t p formed room (length xs) c.in-ok-fee.fee (ap (first (past_source t.chunks)) (sym whole) ∙ inside) (sym (ap length listed ∙ length-map xs (moved offset))) (sym (ap (fee t) (sym whole) ∙ cost))

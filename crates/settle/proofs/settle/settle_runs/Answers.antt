@@ -8,18 +8,18 @@ use Rattle.selection.specs.declared.selections.Selection.TheVariants.{Runs}
 use Rattle.selection.specs.Refusals.{first}
 use Rattle.selection.specs.Selected.{no_run, run_fault, selection_fault}
 use Rattle.selection.proofs.Faults.{run_fine, run_says}
-use Rattle.selection.proofs.Objections.{answered_ok, answered_err, answered_value, count-stands, count-passes, count-ends}
+use Rattle.selection.proofs.Objections.{answered_ok, answered_err, answered_value, count_stands, count_passes, count_ends}
 use Rattle.settle.specs.declared.settle.Push.{Push}
 use Rattle.settle.specs.Pushes.{fee, past_source, places}
 use Rattle.settle.specs.Tallies.{Tallied}
-use Rattle.settle.proofs.Settled.{by-grant, by-past, by-room, by-selection, not_long, places-runs, roomy, run_places_more, run_places, runs-fault, runs-long}
+use Rattle.settle.proofs.Settled.{by_grant, by_past, by_room, by_selection, not_long, places_runs, roomy, run_places_more, run_places, runs_fault_is, runs_long}
 use Rattle.settle.proofs.Tallying.{tallied_none}
 use Rattle.settle.proofs.settle.settle_runs.Goals as goal
 
 pub returns-in-err-check-len : goal.returns-in-err-check-len
 returns-in-err-check-len c =
     let e = err_from_is_err_and c.from-residual.result c.from-residual.ensures.1 in
-    rw (e.1, e.2) (by-selection c.args.terms.now (record { offset = c.args.offset; selection = Runs c.args.runs c.args.len }) _ (runs-long c.args.runs c.args.len _ (answered_err _ _ _ (sym c.in-err-check-len.ensures))))
+    rw (e.1, e.2) (by_selection c.args.terms.now (record { offset = c.args.offset; selection = Runs c.args.runs c.args.len }) _ (runs_long c.args.runs c.args.len _ (answered_err _ _ _ (sym c.in-err-check-len.ensures))))
 
 pub loop-place-init : goal.loop-place-init
 loop-place-init c =
@@ -35,7 +35,7 @@ returns-in-err-least c =
     let len = c.args.len in
     let e = err_from_is_err_and c.from-residual-in-err-least.result c.from-residual-in-err-least.ensures.1 in
     let fault = sym (run_says len rs k c.loop-place.least c.loop-place.invariant.0) ∙ answered_err _ _ _ (sym c.in-err-least.ensures) in
-    rw (e.1, e.2) (by-selection c.args.terms.now (record { offset = c.args.offset; selection = Runs c.args.runs len }) _ (runs-fault c.args.runs len (answered_ok _ _ _ (sym c.in-ok-check-len.ensures)) ∙ count-stands (run_fault len rs) k (length rs) c.loop-place.invariant.1 _ c.loop-place-test.true fault))
+    rw (e.1, e.2) (by_selection c.args.terms.now (record { offset = c.args.offset; selection = Runs c.args.runs len }) _ (runs_fault_is c.args.runs len (answered_ok _ _ _ (sym c.in-ok-check-len.ensures)) ∙ count_stands (run_fault len rs) k (length rs) c.loop-place.invariant.1 _ c.loop-place-test.true fault))
 
 pub loop-place-preserved : goal.loop-place-preserved
 loop-place-preserved c =
@@ -65,7 +65,7 @@ loop-place-preserved c =
     let sizes = ap length more ∙ length-append ps ys in
     let size = length-range_with_len ((get_or rs k no_run).start + up) ((get_or rs k no_run).«end» + up - ((get_or rs k no_run).start + up)) in (
       rw back (grind (arith, nat_tests)),
-      count-passes (run_fault len rs) k (length rs) inv.1 c.loop-place-test.true fine,
+      count_passes (run_fault len rs) k (length rs) inv.1 c.loop-place-test.true fine,
       subst (Tallied t c.take-run.new.self) (sym more) on,
       omega arith,
       omega arith,
@@ -81,8 +81,8 @@ returns-in-err-check-room c =
     let len = c.args.len in
     let p : Push = record { offset = c.args.offset; selection = Runs c.args.runs len } in
     let e = err_from_is_err_and c.from-residual-in-err-check-room.result c.from-residual-in-err-check-room.ensures.1 in
-    let formed : selection_fault (Runs c.args.runs len) ≡ None = runs-fault c.args.runs len (answered_ok _ _ _ (sym c.in-ok-check-len.ensures)) ∙ count-ends (run_fault len rs) c.loop-place.place (length rs) c.loop-place.invariant.1 c.loop-place-test.false in
-    rw (e.1, e.2) (by-room t p formed _ (answered_err _ _ _ (sym c.in-err-check-room.ensures)))
+    let formed : selection_fault (Runs c.args.runs len) ≡ None = runs_fault_is c.args.runs len (answered_ok _ _ _ (sym c.in-ok-check-len.ensures)) ∙ count_ends (run_fault len rs) c.loop-place.place (length rs) c.loop-place.invariant.1 c.loop-place-test.false in
+    rw (e.1, e.2) (by_room t p formed _ (answered_err _ _ _ (sym c.in-err-check-room.ensures)))
 
 pub end-requires : goal.end-requires
 end-requires c =
@@ -99,15 +99,15 @@ returns-in-err-fee c =
     let len = c.args.len in
     let offset = c.args.offset in
     let p : Push = record { offset = offset; selection = Runs c.args.runs len } in
-    let formed : selection_fault (Runs c.args.runs len) ≡ None = runs-fault c.args.runs len (answered_ok _ _ _ (sym c.in-ok-check-len.ensures)) ∙ count-ends (run_fault len rs) c.loop-place.place (length rs) c.loop-place.invariant.1 c.loop-place-test.false in
+    let formed : selection_fault (Runs c.args.runs len) ≡ None = runs_fault_is c.args.runs len (answered_ok _ _ _ (sym c.in-ok-check-len.ensures)) ∙ count_ends (run_fault len rs) c.loop-place.place (length rs) c.loop-place.invariant.1 c.loop-place-test.false in
     let room = answered_ok _ _ _ (sym c.in-ok-check-room.ensures) in
     let small = (roomy t.scratch offset room).0 in
     let up : c.min-up.result ≡ offset = let m = c.min-up.ensures in omega arith in
-    let whole : run_places c.min-up.result (take c.loop-place.place rs) ≡ places p = ap₂ run_places up (take_all c.loop-place.place rs c.loop-place-test.false) ∙ sym (places-runs offset c.args.runs len formed) in
+    let whole : run_places c.min-up.result (take c.loop-place.place rs) ≡ places p = ap₂ run_places up (take_all c.loop-place.place rs c.loop-place-test.false) ∙ sym (places_runs offset c.args.runs len formed) in
     let gave = c.in-err-fee.ensures (run_places c.min-up.result (take c.loop-place.place rs)) c.loop-place.invariant.2 in
     let e = err_from_is_err_and c.from-residual-in-err-fee.result c.from-residual-in-err-fee.ensures.1 in
     let past = answered_err _ _ _ (sym gave) in
-    rw (e.1, e.2) (by-past t p formed room _ (ap (first (past_source t.chunks)) (sym whole) ∙ past))
+    rw (e.1, e.2) (by_past t p formed room _ (ap (first (past_source t.chunks)) (sym whole) ∙ past))
 
 pub returns : goal.returns
 returns c =
@@ -116,13 +116,13 @@ returns c =
     let len = c.args.len in
     let offset = c.args.offset in
     let p : Push = record { offset = offset; selection = Runs c.args.runs len } in
-    let formed : selection_fault (Runs c.args.runs len) ≡ None = runs-fault c.args.runs len (answered_ok _ _ _ (sym c.in-ok-check-len.ensures)) ∙ count-ends (run_fault len rs) c.loop-place.place (length rs) c.loop-place.invariant.1 c.loop-place-test.false in
+    let formed : selection_fault (Runs c.args.runs len) ≡ None = runs_fault_is c.args.runs len (answered_ok _ _ _ (sym c.in-ok-check-len.ensures)) ∙ count_ends (run_fault len rs) c.loop-place.place (length rs) c.loop-place.invariant.1 c.loop-place-test.false in
     let room = answered_ok _ _ _ (sym c.in-ok-check-room.ensures) in
     let small = (roomy t.scratch offset room).0 in
     let up : c.min-up.result ≡ offset = let m = c.min-up.ensures in omega arith in
-    let whole : run_places c.min-up.result (take c.loop-place.place rs) ≡ places p = ap₂ run_places up (take_all c.loop-place.place rs c.loop-place-test.false) ∙ sym (places-runs offset c.args.runs len formed) in
+    let whole : run_places c.min-up.result (take c.loop-place.place rs) ≡ places p = ap₂ run_places up (take_all c.loop-place.place rs c.loop-place-test.false) ∙ sym (places_runs offset c.args.runs len formed) in
     let gave = c.in-ok-fee.ensures (run_places c.min-up.result (take c.loop-place.place rs)) c.loop-place.invariant.2 in
     let inside = answered_ok _ _ _ (sym gave) in
     let cost = answered_value _ _ _ (sym gave) in
     c.grant.ensures
-    ∙ by-grant t p formed room c.loop-place.total c.in-ok-fee.fee (ap (first (past_source t.chunks)) (sym whole) ∙ inside) (c.loop-place.invariant.5 ∙ ap length whole) (sym (ap (fee t) (sym whole) ∙ cost))
+    ∙ by_grant t p formed room c.loop-place.total c.in-ok-fee.fee (ap (first (past_source t.chunks)) (sym whole) ∙ inside) (c.loop-place.invariant.5 ∙ ap length whole) (sym (ap (fee t) (sym whole) ∙ cost))

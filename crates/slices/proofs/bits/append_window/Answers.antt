@@ -6,7 +6,7 @@ use Rattle.kernels.specs.declared.slice.MaskBits.TheVariants.{Window as Framed}
 use Rattle.kernels.proofs.Masked.{left_none, left_of, mask_left, window_mask, window_selected}
 use Rattle.slices.specs.Accumulated.{Adds, Room}
 use Rattle.slices.proofs.Stored.{going_done, going_room, going_same, going_start, going_turn}
-use Rattle.slices.proofs.Taken.{left-taken}
+use Rattle.slices.proofs.Taken.{left_taken}
 use Rattle.slices.proofs.bits.append_window.Goals as goal
 
 pub loop-k-init : goal.loop-k-init
@@ -24,7 +24,7 @@ append-word-requires c =
     let within : k < n = omega arith in
     let xs = map (bit_of (word_of s k)) (set_bits 64 (word_of w k) 0) in
     let rest = map (window_bit s) (left_of (mask_bit (Framed w)) (k + 1) n) in
-    let inv = going_same (xs ++ rest) (left-taken s w c.requires.same k n within) c.loop-k.invariant in
+    let inv = going_same (xs ++ rest) (left_taken s w c.requires.same k n within) c.loop-k.invariant in
     let room = subst (λ m. Room c.args.out.now c.args.acc.now m) (sym (length-map (window_positions w) (window_bit s))) c.requires.room in
     subst (λ m. Room c.loop-k.out c.loop-k.acc m) (length-map (set_bits 64 (word_of w k) 0) (bit_of (word_of s k)) ∙ ap (λ m. length (set_bits 64 m 0)) (sym c.word-in-loop-k.ensures)) (going_room xs rest inv room)
 
@@ -38,7 +38,7 @@ loop-k-preserved c =
     let within : k < n = omega arith in
     let xs = map (bit_of (word_of s k)) (set_bits 64 (word_of w k) 0) in
     let rest = map (window_bit s) (left_of (mask_bit (Framed w)) (k + 1) n) in
-    let inv = going_same (xs ++ rest) (left-taken s w c.requires.same k n within) c.loop-k.invariant in
+    let inv = going_same (xs ++ rest) (left_taken s w c.requires.same k n within) c.loop-k.invariant in
     let same : map (bit_of c.word.result) (set_bits 64 c.word-in-loop-k.result 0) ≡ xs = ap₂ (λ a b. map (bit_of a) (set_bits 64 b 0)) c.word.ensures c.word-in-loop-k.ensures in
     going_turn xs rest c.append-word.new.out c.append-word.new.acc inv (subst (λ ys. Adds ys c.loop-k.out c.loop-k.acc c.append-word.new.out c.append-word.new.acc) same c.append-word.ensures)
 

@@ -3,7 +3,7 @@ use Rattle.std.proofs.lemmas.Bool.{eq-eqb, le-ltb, lt-ltb, ne_eqb}
 use Rattle.selection.specs.Selected.{count_of, extent}
 use Rattle.selection.proofs.Objections.{answered_err, answered_ok, answered_value, ok_answered}
 use Rattle.slices.specs.Bits.{bits_fault, bytes_for}
-use Rattle.slices.proofs.Picked.{bits_look, mismatch-stands, nothing-stands, output-stands, refused_after, refused_never, refused_value, selection-stands, settled_after, window-stands}
+use Rattle.slices.proofs.Picked.{bits_look, mismatch_stands, nothing_stands, output_stands, refused_after, refused_never, refused_value, selection_stands, settled_after, window_stands}
 use Rattle.slices.proofs.bits.filter_bitbuffer_by_mask.Goals as goal
 use Rattle.std.proofs.lemmas.Result.{err_from_is_err_and}
 
@@ -20,7 +20,7 @@ returns-in-err-count c =
     let s = c.args.selection in
     let places = length c.args.out.now in
     let e = err_from_is_err_and c.from-residual.result c.from-residual.ensures.1 in
-    let stands = selection-stands w s places _ (answered_err _ _ _ (sym c.in-err-count.ensures)) in
+    let stands = selection_stands w s places _ (answered_err _ _ _ (sym c.in-err-count.ensures)) in
     record { value = rw (e.1, e.2) (refused_value (bits_fault w s places) _ (count_of s) stands); after = refused_after (bits_fault w s places) _ _ _ stands; bits = refused_never (bits_fault w s places) _ stands }
 
 pub returns-in-err-check : goal.returns-in-err-check
@@ -30,7 +30,7 @@ returns-in-err-check c =
     let places = length c.args.out.now in
     let formed = answered_ok _ _ _ (sym c.in-ok-count.ensures) in
     let e = err_from_is_err_and c.from-residual-in-err-check.result c.from-residual-in-err-check.ensures.1 in
-    let stands = window-stands w s places _ formed (answered_err _ _ _ (sym c.in-err-check.ensures)) in
+    let stands = window_stands w s places _ formed (answered_err _ _ _ (sym c.in-err-check.ensures)) in
     record { value = rw (e.1, e.2) (refused_value (bits_fault w s places) _ (count_of s) stands); after = refused_after (bits_fault w s places) _ _ _ stands; bits = refused_never (bits_fault w s places) _ stands }
 
 pub returns-then-len-source : goal.returns-then-len-source
@@ -41,7 +41,7 @@ returns-then-len-source c =
     let formed = answered_ok _ _ _ (sym c.in-ok-count.ensures) in
     let inside = answered_ok _ _ _ (sym c.in-ok-check.ensures) in
     let differ : eqb (extent s) w.len ≡ false = ne_eqb (extent s) w.len (λ q. c.if-len-source.true (c.len.ensures ∙ q)) in
-    let stands = mismatch-stands w s places formed inside differ in
+    let stands = mismatch_stands w s places formed inside differ in
     record { value = refused_value (bits_fault w s places) _ (count_of s) stands; after = refused_after (bits_fault w s places) _ _ _ stands; bits = refused_never (bits_fault w s places) _ stands }
 
 pub returns-then-out-div-ceil : goal.returns-then-out-div-ceil
@@ -56,7 +56,7 @@ returns-then-out-div-ceil c =
     let up = c.div-ceil.ensures in
     let taken = c.if-out-div-ceil.true in
     let few : ltb places (bytes_for (count_of s)) ≡ true = lt-ltb places (bytes_for (count_of s)) (omega arith) in
-    let stands = output-stands w s places formed inside same few in
+    let stands = output_stands w s places formed inside same few in
     record { value = refused_value (bits_fault w s places) _ (count_of s) stands; after = refused_after (bits_fault w s places) _ _ _ stands; bits = refused_never (bits_fault w s places) _ stands }
 
 pub returns : goal.returns
@@ -71,5 +71,5 @@ returns c =
     let up = c.div-ceil.ensures in
     let left = c.if-out-div-ceil.false in
     let enough : ltb places (bytes_for (count_of s)) ≡ false = le-ltb places (bytes_for (count_of s)) (omega arith) in
-    let none = nothing-stands w s places formed inside same enough in
+    let none = nothing_stands w s places formed inside same enough in
     record { value = ap Ok (sym n) ∙ ok_answered (bits_fault w s places) (count_of s) none; after = settled_after (bits_fault w s places) _ _ c.write-selected.new.out none c.write-selected.ensures; bits = λ _. bits_look w s c.args.out.now c.write-selected.new.out c.write-selected.ensures }

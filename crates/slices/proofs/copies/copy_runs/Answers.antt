@@ -4,7 +4,7 @@ use Rattle.std.proofs.lemmas.List.{drop_all}
 use Rattle.selection.specs.Selected.{no_run, range}
 use Rattle.kernels.specs.Masks.{compacted}
 use Rattle.kernels.proofs.Masked.{left_done, left_same}
-use Rattle.slices.proofs.Copied.{run-copied, run_fits}
+use Rattle.slices.proofs.Copied.{run_copied, run_fits}
 use Rattle.slices.proofs.Formed.{ranges_inside}
 use Rattle.slices.proofs.copies.copy_runs.Goals as goal
 
@@ -38,7 +38,7 @@ pub loop-k-preserved : goal.loop-k-preserved
 loop-k-preserved g c =
     let rs = c.args.runs.now in
     let room : length (flat_map range rs) ≤ length c.loop-k.out = let r = c.requires.room in omega arith in
-    run-copied rs c.loop-k.k c.loop-k-test.true c.loop-k.invariant room c.copy-to.new.dst c.copy-to.ensures
+    run_copied rs c.loop-k.k c.loop-k-test.true c.loop-k.invariant room c.copy-to.new.dst c.copy-to.ensures
 
 pub returns : goal.returns
 returns g c = (left_done (left_same [] (ap (flat_map range) (drop_all c.loop-k.k c.args.runs.now c.loop-k-test.false)) c.loop-k.invariant)).1

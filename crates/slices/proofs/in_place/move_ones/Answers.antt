@@ -3,7 +3,7 @@ use lib.Bits.{and_le_l}
 use lib.Count.{count_trailing_zeros}
 use Rattle.kernels.specs.Masks.{set_bits}
 use Rattle.kernels.proofs.SetBits.{no_bits}
-use Rattle.slices.proofs.Placed.{bit-fits, bit_moved, held_all, held_done, held_same}
+use Rattle.slices.proofs.Placed.{bit_fits, bit_moved, held_all, held_done, held_same}
 use Rattle.slices.proofs.in_place.move_ones.Goals as goal
 
 pub loop-m-init : goal.loop-m-init
@@ -15,7 +15,7 @@ pub overflow-add-values : goal.overflow-add-values
 overflow-add-values g c =
     let m = c.loop-m.m in
     let p : 0 < m = omega arith in
-    let i = (bit-fits m c.args.base p c.loop-m.invariant.0 c.loop-m.invariant.1).1 in
+    let i = (bit_fits m c.args.base p c.loop-m.invariant.0 c.loop-m.invariant.1).1 in
     let fits : c.args.base + count_trailing_zeros 64 m < 2 ^ 64 = omega arith in
     search rules
 
@@ -23,7 +23,7 @@ pub offset-bounds-values-base : goal.offset-bounds-values-base
 offset-bounds-values-base g c =
     let m = c.loop-m.m in
     let p : 0 < m = omega arith in
-    let i = (bit-fits m c.args.base p c.loop-m.invariant.0 c.loop-m.invariant.1).1 in
+    let i = (bit_fits m c.args.base p c.loop-m.invariant.0 c.loop-m.invariant.1).1 in
     let inside : c.args.base + count_trailing_zeros 64 m < length c.loop-m.values = omega arith in
     search rules
 
@@ -31,14 +31,14 @@ pub bounds-values-base : goal.bounds-values-base
 bounds-values-base g c =
     let m = c.loop-m.m in
     let p : 0 < m = omega arith in
-    let i = (bit-fits m c.args.base p c.loop-m.invariant.0 c.loop-m.invariant.1).1 in
+    let i = (bit_fits m c.args.base p c.loop-m.invariant.0 c.loop-m.invariant.1).1 in
     omega arith
 
 pub offset-bounds-values-at : goal.offset-bounds-values-at
 offset-bounds-values-at g c =
     let m = c.loop-m.m in
     let p : 0 < m = omega arith in
-    let i = bit-fits m c.args.base p c.loop-m.invariant.0 c.loop-m.invariant.1 in
+    let i = bit_fits m c.args.base p c.loop-m.invariant.0 c.loop-m.invariant.1 in
     let low = i.0 in
     let high = i.1 in
     let inside : c.loop-m.at < length c.loop-m.values = omega arith in
@@ -48,7 +48,7 @@ pub bounds-values-at : goal.bounds-values-at
 bounds-values-at g c =
     let m = c.loop-m.m in
     let p : 0 < m = omega arith in
-    let i = bit-fits m c.args.base p c.loop-m.invariant.0 c.loop-m.invariant.1 in
+    let i = bit_fits m c.args.base p c.loop-m.invariant.0 c.loop-m.invariant.1 in
     let low = i.0 in
     let high = i.1 in
     omega arith
@@ -57,7 +57,7 @@ pub overflow-add-at : goal.overflow-add-at
 overflow-add-at g c =
     let m = c.loop-m.m in
     let p : 0 < m = omega arith in
-    let i = bit-fits m c.args.base p c.loop-m.invariant.0 c.loop-m.invariant.1 in
+    let i = bit_fits m c.args.base p c.loop-m.invariant.0 c.loop-m.invariant.1 in
     let low = i.0 in
     let high = i.1 in
     let fits : c.loop-m.at + 1 < 2 ^ 64 = omega arith in

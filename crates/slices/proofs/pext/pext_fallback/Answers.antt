@@ -3,7 +3,7 @@ use Rattle.selection.specs.Selected.{bit_of}
 use Rattle.kernels.specs.Masks.{set_bits}
 use Rattle.kernels.proofs.SetBits.{bits_none}
 use Rattle.slices.specs.Bits.{packed}
-use Rattle.slices.proofs.Extracts.{byte-count, byte_more, pext_bits, pext_is, set_short}
+use Rattle.slices.proofs.Extracts.{byte_count, byte_more, pext_bits, pext_is, set_short}
 use Rattle.slices.proofs.pext.pext_fallback.Goals as goal
 
 pub loop-b-init : goal.loop-b-init
@@ -35,7 +35,7 @@ pub loop-b-preserved : goal.loop-b-preserved
 loop-b-preserved c =
     let n = c.from-done.ensures ∙ c.table-entry.ensures in (
       byte_more c.args.src c.args.mask c.loop-b.b c.loop-b.all c.loop-b.done c.pext-byte.result c.from-done.result c.loop-b-test.true c.loop-b.invariant.0 c.loop-b.invariant.1 c.pext-byte.ensures n,
-      byte-count c.args.src c.args.mask c.loop-b.b c.loop-b.all c.loop-b.done c.pext-byte.result c.from-done.result c.loop-b-test.true c.loop-b.invariant.0 c.loop-b.invariant.1 c.pext-byte.ensures n,
+      byte_count c.args.src c.args.mask c.loop-b.b c.loop-b.all c.loop-b.done c.pext-byte.result c.from-done.result c.loop-b-test.true c.loop-b.invariant.0 c.loop-b.invariant.1 c.pext-byte.ensures n,
     )
 
 pub returns : goal.returns

@@ -1,7 +1,7 @@
 use Rattle.std.proofs.Common.{length, sym, ap, arith}
 use Rattle.std.proofs.lemmas.Bool.Decides.{nat_tests}
 use Rattle.selection.specs.Refusals.{answered}
-use Rattle.selection.proofs.Objections.{count-stands, count-passes, count-ends}
+use Rattle.selection.proofs.Objections.{count_stands, count_passes, count_ends}
 use Rattle.source.specs.Fetched.{index_fault}
 use Rattle.source.proofs.Fetches.{index_past, index_fine}
 use Rattle.source.proofs.decoder.check_in_chunk.Goals as goal
@@ -10,15 +10,15 @@ pub returns-then-index-ge-CHUNK : goal.returns-then-index-ge-CHUNK
 returns-then-index-ge-CHUNK c =
     let is = c.args.indices.now in
     let k = c.loop-place.place in
-    ap (λ o. answered o tt) (sym (count-stands (index_fault is) k (length is) c.loop-place.invariant _ c.loop-place-test.true (index_past is k c.if-index-ge-CHUNK.true)))
+    ap (λ o. answered o tt) (sym (count_stands (index_fault is) k (length is) c.loop-place.invariant _ c.loop-place-test.true (index_past is k c.if-index-ge-CHUNK.true)))
 
 pub loop-place-preserved : goal.loop-place-preserved
 loop-place-preserved c =
     let is = c.args.indices.now in
     let k = c.loop-place.place in
-    count-passes (index_fault is) k (length is) c.loop-place.invariant c.loop-place-test.true (index_fine is k c.if-index-ge-CHUNK.false)
+    count_passes (index_fault is) k (length is) c.loop-place.invariant c.loop-place-test.true (index_fine is k c.if-index-ge-CHUNK.false)
 
 pub returns : goal.returns
 returns c =
     let is = c.args.indices.now in
-    ap (λ o. answered o tt) (sym (count-ends (index_fault is) c.loop-place.place (length is) c.loop-place.invariant c.loop-place-test.false))
+    ap (λ o. answered o tt) (sym (count_ends (index_fault is) c.loop-place.place (length is) c.loop-place.invariant c.loop-place-test.false))

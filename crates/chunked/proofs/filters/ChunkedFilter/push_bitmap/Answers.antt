@@ -7,7 +7,7 @@ use Rattle.settle.specs.declared.settle.Push.{Push}
 use Rattle.settle.specs.Pushes.{answer, declined, places}
 use Rattle.chunked.specs.Served.{serving, state_of, store_of, storing, terms_of}
 use Rattle.settle.proofs.Settled.{formed_window, places_window, roomy}
-use Rattle.chunked.proofs.Accepted.{accepted, refused-next, served_by}
+use Rattle.chunked.proofs.Accepted.{accepted, refused_next, served_by}
 use Rattle.chunked.proofs.filters.ChunkedFilter.push_bitmap.Goals as goal
 
 pub returns-in-err-receipt : goal.returns-in-err-receipt
@@ -18,7 +18,7 @@ returns-in-err-receipt g c =
     let terms : c.terms-terms.result ≡ terms_of L s = c.terms-terms.ensures in
     let e = err_from_is_err_and c.from-residual.result c.from-residual.ensures.1 in
     let gave = c.in-err-receipt.ensures ∙ ap (λ t. answer t p) terms in
-    record { value = rw (e.1, e.2) gave; after = refused-next L s p _ (sym gave) }
+    record { value = rw (e.1, e.2) gave; after = refused_next L s p _ (sym gave) }
 
 pub serve-bitmap-requires : goal.serve-bitmap-requires
 serve-bitmap-requires g c =

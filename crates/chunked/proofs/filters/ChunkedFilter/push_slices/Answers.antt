@@ -5,8 +5,8 @@ use Rattle.kernels.specs.Moved.{limit_at_width}
 use Rattle.settle.specs.declared.settle.Push.{Push}
 use Rattle.settle.specs.Pushes.{answer, declined, places}
 use Rattle.chunked.specs.Served.{serving, state_of, store_of, storing, terms_of}
-use Rattle.settle.proofs.Settled.{listed-runs-rise, places-runs, roomy}
-use Rattle.chunked.proofs.Accepted.{accepted, refused-next, served_by}
+use Rattle.settle.proofs.Settled.{listed_runs_rise, places_runs, roomy}
+use Rattle.chunked.proofs.Accepted.{accepted, refused_next, served_by}
 use Rattle.chunked.proofs.filters.ChunkedFilter.push_slices.Goals as goal
 
 pub returns-in-err-receipt : goal.returns-in-err-receipt
@@ -17,7 +17,7 @@ returns-in-err-receipt g c =
     let terms : c.terms-terms.result ≡ terms_of L s = c.terms-terms.ensures in
     let e = err_from_is_err_and c.from-residual.result c.from-residual.ensures.1 in
     let gave = c.in-err-receipt.ensures ∙ ap (λ t. answer t p) terms in
-    record { value = rw (e.1, e.2) gave; after = refused-next L s p _ (sym gave) }
+    record { value = rw (e.1, e.2) gave; after = refused_next L s p _ (sym gave) }
 
 pub serve-runs-requires : goal.serve-runs-requires
 serve-runs-requires g c =
@@ -30,8 +30,8 @@ serve-runs-requires g c =
     let room = roomy _ _ a.roomy in
     record {
       small = room.0;
-      rising = listed-runs-rise c.args.offset c.args.runs c.args.len a.formed;
-      granted = ap (declined (terms_of L s)) (sym (places-runs c.args.offset c.args.runs c.args.len a.formed)) ∙ a.allowed;
+      rising = listed_runs_rise c.args.offset c.args.runs c.args.len a.formed;
+      granted = ap (declined (terms_of L s)) (sym (places_runs c.args.offset c.args.runs c.args.len a.formed)) ∙ a.allowed;
       room = room.1;
     }
 
@@ -43,7 +43,7 @@ returns g c =
     let terms : c.terms-terms.result ≡ terms_of L s = c.terms-terms.ensures in
     let gave = c.in-ok-receipt.ensures ∙ ap (λ t. answer t p) terms in
     let a = accepted L s p _ (sym gave) in
-    let same = places-runs c.args.offset c.args.runs c.args.len a.formed in
+    let same = places_runs c.args.offset c.args.runs c.args.len a.formed in
     let after = c.serve-runs.new.source in
     let h = storing (g.D.ChunkDecoder.readings after) (g.D.ChunkDecoder.allowance after) c.serve-runs.new.output c.serve-runs.new.scratch in
     let done : h ≡ serving L (store_of s) s.written (places p) = c.serve-runs.ensures ∙ ap (serving L (store_of s) s.written) (sym same) in

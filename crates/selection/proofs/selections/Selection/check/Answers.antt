@@ -7,18 +7,18 @@ pub returns-in-Bitmap : goal.returns-in-Bitmap
 unfolding selection_fault
 returns-in-Bitmap c = search rules
 
-pub returns-in-err-count-indices : goal.returns-in-err-count-indices
+pub returns-in_err-count_indices-in-Indices : goal.returns-in_err-count_indices-in-Indices
 unfolding selection_fault
-returns-in-err-count-indices c = search rules
+returns-in_err-count_indices-in-Indices c = search rules
 
-pub returns-in-ok-count-indices : goal.returns-in-ok-count-indices
+pub returns-in_ok-count_indices-in-Indices : goal.returns-in_ok-count_indices-in-Indices
 unfolding selection_fault
-returns-in-ok-count-indices c = rw c.in-Indices.is (ok_answered _ _ (answered_ok _ _ _ (sym c.in-ok-count-indices.ensures)))
+returns-in_ok-count_indices-in-Indices c = rw c.in-Indices.is (ok_answered _ _ (answered_ok _ _ _ (sym c.in_ok-count_indices-in-Indices.ensures)))
 
-pub returns-in-err-count-runs : goal.returns-in-err-count-runs
+pub returns-in_err-count_runs-in-Runs : goal.returns-in_err-count_runs-in-Runs
 unfolding selection_fault
-returns-in-err-count-runs c = search rules
+returns-in_err-count_runs-in-Runs c = search rules
 
-pub returns-in-ok-count-runs : goal.returns-in-ok-count-runs
+pub returns-in_ok-count_runs-in-Runs : goal.returns-in_ok-count_runs-in-Runs
 unfolding selection_fault
-returns-in-ok-count-runs c = rw c.in-Runs.is (ok_answered _ _ (answered_ok _ _ _ (sym c.in-ok-count-runs.ensures)))
+returns-in_ok-count_runs-in-Runs c = rw c.in-Runs.is (ok_answered _ _ (answered_ok _ _ _ (sym c.in_ok-count_runs-in-Runs.ensures)))

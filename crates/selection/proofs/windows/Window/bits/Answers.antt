@@ -10,5 +10,5 @@ returns c =
     let from = c.args.«from» in
     let shift : ℕ = w.start % 8 + from % 8 in
     let at : 8 * (w.start / 8 + from / 8 + shift / 8) + shift % 8 ≡ w.start + from = omega arith in
-    let size : c.min-n.result ≡ min (min c.args.n 64) (w.len - from) = let a = c.min-n.ensures in let b = c.min.ensures in let d = c.saturating-sub.ensures in omega arith in
-    c.bits-at.ensures ∙ bits_window w from _ c.min-n.result at ∙ ap (number_of_bits (window_from w from)) size
+    let size : c.min-n.result ≡ min (min c.args.n 64) (w.len - from) = let a = c.min-n.ensures in let b = c.min.ensures in let d = c.saturating_sub.ensures in omega arith in
+    c.bits_at.ensures ∙ bits_window w from _ c.min-n.result at ∙ ap (number_of_bits (window_from w from)) size

@@ -9,4 +9,4 @@ returns c =
     let w = c.args.self in
     let from : min 0 w.len ≡ 0 = omega arith in
     let size : min w.len w.len - min 0 w.len ≡ w.len = omega arith in
-    c.ones-between.ensures ∙ ap₂ (λ x m. length (filter (window_bit w) (range_with_len x m))) from size
+    c.ones_between.ensures ∙ ap₂ (λ x m. length (filter (window_bit w) (range_with_len x m))) from size

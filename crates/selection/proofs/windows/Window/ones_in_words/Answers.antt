@@ -11,15 +11,15 @@ more c =
     let w = c.args.self in
     let first = c.args.first in
     let n = c.args.n in
-    let up = c.div-ceil-k-end.ensures in
+    let up = c.div_ceil-k-end.ensures in
     let taken = c.loop-k-test.true in
     let within : 64 * c.loop-k.k < n = omega arith in
     let so_far : min n (64 * c.loop-k.k) ≡ 64 * c.loop-k.k = omega arith in
     let inv : c.loop-k.ones ≡ tally (window_from w first) (64 * c.loop-k.k) = c.loop-k.invariant ∙ ap (tally (window_from w first)) so_far in
     ap₂ (λ x y. x + y) inv (c.from-ones.ensures ∙ ap ones c.bits.ensures) ∙ ones_bits w first n c.loop-k.k c.requires within
 
-pub overflow-add-ones : goal.overflow-add-ones
-overflow-add-ones c =
+pub overflow_add-ones : goal.overflow_add-ones
+overflow_add-ones c =
     let all = more c in
     let most = tally_le (window_from c.args.self c.args.first) (min c.args.n (64 * (c.loop-k.k + 1))) in
     let fits : c.loop-k.ones + c.from-ones.result < 2 ^ 64 = let l : c.args.n < 2 ^ 64 = search rules in omega arith in
@@ -30,7 +30,7 @@ loop-k-preserved c = more c
 
 pub returns : goal.returns
 returns c =
-    let up = c.div-ceil-k-end.ensures in
+    let up = c.div_ceil-k-end.ensures in
     let left = c.loop-k-test.false in
     let end : min c.args.n (64 * c.loop-k.k) ≡ c.args.n = omega arith in
     c.loop-k.invariant ∙ ap (tally (window_from c.args.self c.args.first)) end

@@ -10,4 +10,4 @@ pub returns : goal.returns
 returns c =
     let start = c.args.self.start in
     let at : 8 * (start / 8 + 8 * c.args.k) + start % 8 ≡ start + 64 * c.args.k = omega arith in
-    c.bits-at.ensures ∙ ap₂ (bits_from c.args.self.bytes.now) at c.min-n.ensures ∙ word_bits c.args.self c.args.k
+    c.bits_at.ensures ∙ ap₂ (bits_from c.args.self.bytes.now) at c.min-n.ensures ∙ word_bits c.args.self c.args.k

@@ -3,7 +3,7 @@ use Rattle.std.specs.List.{AllByRecursion as All}
 use Rattle.selection.specs.Refusals.{first}
 use Rattle.settle.specs.Pushes.{past_source}
 use Rattle.settle.specs.Tallies.{Tallied, beyond_fault}
-use Rattle.settle.proofs.Tallying.{Turned, past-not, past-now, past-still, tallied-more, turned_next, turned_same, turned-weight}
+use Rattle.settle.proofs.Tallying.{Turned, past_not, past_now, past_still, tallied_more, turned_next, turned_same, turned_weight}
 use Rattle.settle.proofs.settle.Tally.take.Goals as goal
 use Rattle.settle.proofs.settle.Tally.take.Goals.{then-chunk-self, else-chunk-self, else-chunk-terms-via-then-chunk-terms+else-is-none, else-chunk-terms-via-else-chunk-terms}
 
@@ -24,9 +24,9 @@ returns-then-is-none c =
       | else-chunk-self w ↦ turned_same t.limit y chunk z w.if-chunk-self.false w.self-is
     ] in
     record {
-      tallied = λ ps ys h here size. tallied-more t y chunk n z turn ps ys h here size c.requires.ahead (Some chunk) (past-now t y ps ys chunk n h here size c.requires.ahead c.requires.some (sym turn.beyond ∙ none_is z.beyond c.if-is-none.ensures) c.if-chunk-terms.true);
+      tallied = λ ps ys h here size. tallied_more t y chunk n z turn ps ys h here size c.requires.ahead (Some chunk) (past_now t y ps ys chunk n h here size c.requires.ahead c.requires.some (sym turn.beyond ∙ none_is z.beyond c.if-is-none.ensures) c.if-chunk-terms.true);
       current = turn.chunk;
-      weight = turned-weight t.limit y chunk n z turn;
+      weight = turned_weight t.limit y chunk n z turn;
     }
 
 pub returns-else-chunk-terms : goal.returns-else-chunk-terms
@@ -43,11 +43,11 @@ returns-else-chunk-terms c =
     ] in
     let past : (ps ys : List ℕ) → Tallied t y ps → All (λ p. p / 1024 ≡ chunk) ys → length ys ≡ n → first (past_source t.chunks) (ps ++ ys) ≡ beyond_fault z.beyond =
     λ ps ys h here size. elim c.else-chunk-terms.branch [
-      | else-chunk-terms-via-then-chunk-terms+else-is-none w ↦ past-still t y ps ys chunk n h here size c.requires.ahead z.beyond c.requires.some turn.beyond w.if-is-none.ensures
-      | else-chunk-terms-via-else-chunk-terms w ↦ past-not t y ps ys chunk n h here size c.requires.ahead c.requires.some w.if-chunk-terms.false ∙ ap beyond_fault (sym turn.beyond)
+      | else-chunk-terms-via-then-chunk-terms+else-is-none w ↦ past_still t y ps ys chunk n h here size c.requires.ahead z.beyond c.requires.some turn.beyond w.if-is-none.ensures
+      | else-chunk-terms-via-else-chunk-terms w ↦ past_not t y ps ys chunk n h here size c.requires.ahead c.requires.some w.if-chunk-terms.false ∙ ap beyond_fault (sym turn.beyond)
     ] in
     record {
-      tallied = λ ps ys h here size. tallied-more t y chunk n z turn ps ys h here size c.requires.ahead z.beyond (past ps ys h here size);
+      tallied = λ ps ys h here size. tallied_more t y chunk n z turn ps ys h here size c.requires.ahead z.beyond (past ps ys h here size);
       current = turn.chunk;
-      weight = turned-weight t.limit y chunk n z turn;
+      weight = turned_weight t.limit y chunk n z turn;
     }

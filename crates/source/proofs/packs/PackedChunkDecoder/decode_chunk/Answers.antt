@@ -6,7 +6,7 @@ use Rattle.selection.proofs.Objections.{answered_ok}
 use Rattle.std.specs.List.{range_with_len}
 use Rattle.source.specs.Fetched.{fetch_fault, fetched, holding, objections, place_in, whole_chunk}
 use Rattle.source.specs.Packing.{packed_chunks, packed_readings, reading_at}
-use Rattle.source.proofs.Fetches.{admitted, carried-out, whole_below, whole_length, whole_places}
+use Rattle.source.proofs.Fetches.{admitted, carried_out, whole_below, whole_length, whole_places}
 use Rattle.source.proofs.Unpacked.{packed_gather}
 use Rattle.source.proofs.packs.PackedChunkDecoder.decode_chunk.Goals as goal
 
@@ -61,5 +61,5 @@ returns c =
     ∙ ap₂ (λ (w b : ℕ). splice out 0 (map (reading_at bytes w) (range_with_len b 1024))) c.min-width.ensures (mul_comm chunk 1024)
     ∙ ap (λ ps. splice out 0 (map (reading_at bytes (min p.width 32)) ps)) (sym (whole_places chunk))
     ∙ ap (splice out 0) (sym (packed_gather bytes p.width p.chunks (map (place_in chunk) whole_chunk) within)) in
-    let done = carried-out (holding xs p.left out) chunk whole_chunk c.chunks.result _ _ c.chunks.ensures ok left wrote in
+    let done = carried_out (holding xs p.left out) chunk whole_chunk c.chunks.result _ _ c.chunks.ensures ok left wrote in
     record { value = done.0; after = done.1 }

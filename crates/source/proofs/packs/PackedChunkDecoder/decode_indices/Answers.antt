@@ -5,7 +5,7 @@ use Rattle.selection.specs.Refusals.{first_of}
 use Rattle.selection.proofs.Objections.{answered_ok}
 use Rattle.source.specs.Fetched.{fetch_fault, fetched, holding, objections, place_in}
 use Rattle.source.specs.Packing.{packed_chunks, packed_readings, reading_at}
-use Rattle.source.proofs.Fetches.{admitted, carried-out}
+use Rattle.source.proofs.Fetches.{admitted, carried_out}
 use Rattle.source.proofs.Unpacked.{packed_gather}
 use Rattle.source.proofs.packs.PackedChunkDecoder.decode_indices.Goals as goal
 
@@ -57,5 +57,5 @@ returns c =
     c.unpack-at.ensures
     ∙ ap₂ (λ (w b : ℕ). splice out 0 (map (reading_at bytes w) (map (λ i. b + i) is))) c.min-width.ensures (mul_comm chunk 1024)
     ∙ ap (splice out 0) (sym (packed_gather bytes p.width p.chunks (map (place_in chunk) is) within)) in
-    let done = carried-out (holding xs p.left out) chunk is c.chunks.result _ _ c.chunks.ensures ok refl wrote in
+    let done = carried_out (holding xs p.left out) chunk is c.chunks.result _ _ c.chunks.ensures ok refl wrote in
     record { value = done.0; after = done.1 }

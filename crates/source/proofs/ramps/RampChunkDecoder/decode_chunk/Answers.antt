@@ -4,7 +4,7 @@ use Rattle.selection.specs.Refusals.{first_of}
 use Rattle.selection.proofs.Objections.{answered_ok}
 use Rattle.kernels.specs.Moved.{splice}
 use Rattle.source.specs.Fetched.{holding, objections, ramped, whole_chunk}
-use Rattle.source.proofs.Fetches.{admitted, carried-out, ramp_chunks, ramp_gathered, turned_down, whole_below, whole_length}
+use Rattle.source.proofs.Fetches.{admitted, carried_out, ramp_chunks, ramp_gathered, turned_down, whole_below, whole_length}
 use Rattle.source.proofs.ramps.RampChunkDecoder.decode_chunk.Goals as goal
 
 pub returns-in-err-admit-chunk : goal.returns-in-err-admit-chunk
@@ -42,5 +42,5 @@ returns c =
     let h = admitted t.chunks t.left (length out) c.args.chunk whole_chunk ok in
     let chunks = ramp_chunks t.start t.step t.chunks in
     let wrote = c.write-chunk.ensures ∙ ap (splice out 0) (sym (ramp_gathered t.start t.step t.chunks c.args.chunk whole_chunk h.chunk whole_below)) in
-    let done = carried-out (holding (ramped t.start t.step (1024 * t.chunks)) t.left out) c.args.chunk whole_chunk t.chunks _ _ (sym chunks) ok (let size = whole_length in omega arith) wrote in
+    let done = carried_out (holding (ramped t.start t.step (1024 * t.chunks)) t.left out) c.args.chunk whole_chunk t.chunks _ _ (sym chunks) ok (let size = whole_length in omega arith) wrote in
     record { value = done.0; after = done.1 }

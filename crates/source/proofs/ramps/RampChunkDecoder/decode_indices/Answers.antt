@@ -4,7 +4,7 @@ use Rattle.selection.specs.Refusals.{first_of}
 use Rattle.selection.proofs.Objections.{answered_ok}
 use Rattle.kernels.specs.Moved.{splice}
 use Rattle.source.specs.Fetched.{holding, objections, ramped, whole_chunk}
-use Rattle.source.proofs.Fetches.{admitted, carried-out, ramp_chunks, ramp_gathered, turned_down, whole_below, whole_length}
+use Rattle.source.proofs.Fetches.{admitted, carried_out, ramp_chunks, ramp_gathered, turned_down, whole_below, whole_length}
 use Rattle.source.proofs.ramps.RampChunkDecoder.decode_indices.Goals as goal
 
 pub returns-in-err-admit-indices : goal.returns-in-err-admit-indices
@@ -40,5 +40,5 @@ returns c =
     let h = admitted t.chunks t.left (length out) c.args.chunk c.args.indices.now ok in
     let chunks = ramp_chunks t.start t.step t.chunks in
     let wrote = c.write-indices.ensures ∙ ap (splice out 0) (sym (ramp_gathered t.start t.step t.chunks c.args.chunk c.args.indices.now h.chunk h.indices)) in
-    let done = carried-out (holding (ramped t.start t.step (1024 * t.chunks)) t.left out) c.args.chunk c.args.indices.now t.chunks _ _ (sym chunks) ok (refl) wrote in
+    let done = carried_out (holding (ramped t.start t.step (1024 * t.chunks)) t.left out) c.args.chunk c.args.indices.now t.chunks _ _ (sym chunks) ok (refl) wrote in
     record { value = done.0; after = done.1 }

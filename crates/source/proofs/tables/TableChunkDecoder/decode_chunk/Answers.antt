@@ -4,7 +4,7 @@ use Rattle.selection.specs.Refusals.{first_of}
 use Rattle.selection.proofs.Objections.{answered_ok}
 use Rattle.source.specs.Fetched.{fetch_fault, fetched, holding, objections, place_in, whole_chunk, whole_part}
 use Rattle.source.specs.Parts.{part_chunks}
-use Rattle.source.proofs.Fetches.{admitted, carried-out, part_chunk, whole_length}
+use Rattle.source.proofs.Fetches.{admitted, carried_out, part_chunk, whole_length}
 use Rattle.source.proofs.tables.TableChunkDecoder.decode_chunk.Goals as goal
 
 pub returns-in-err-admit-chunk : goal.returns-in-err-admit-chunk
@@ -47,5 +47,5 @@ returns g c =
     let left : c.args.self.now.left - 1024 ≡ c.args.self.now.left - length whole_chunk = let size = whole_length in omega arith in
     let values : take 1024 (drop (chunk * 1024) lent) ≡ gather xs (map (place_in chunk) whole_chunk) = ap (λ k. take 1024 (drop k lent)) (mul_comm chunk 1024) ∙ sym (part_chunk lent chunk (omega arith)) in
     let wrote = c.copy-part.ensures ∙ ap (splice out 0) values in
-    let done = carried-out (holding xs c.args.self.now.left out) chunk whole_chunk c.chunks.result _ _ c.chunks.ensures ok left wrote in
+    let done = carried_out (holding xs c.args.self.now.left out) chunk whole_chunk c.chunks.result _ _ c.chunks.ensures ok left wrote in
     record { value = done.0; after = done.1 }

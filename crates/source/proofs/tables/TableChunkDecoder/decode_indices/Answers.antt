@@ -7,7 +7,7 @@ use Rattle.selection.proofs.Objections.{answered_ok}
 use Rattle.selection.proofs.Filtered.{map_same}
 use Rattle.source.specs.Fetched.{fetch_fault, fetched, holding, objections, place_in, whole_chunks, whole_part}
 use Rattle.source.specs.Parts.{part_chunks}
-use Rattle.source.proofs.Fetches.{admitted, carried-out, part_gather}
+use Rattle.source.proofs.Fetches.{admitted, carried_out, part_gather}
 use Rattle.source.proofs.tables.TableChunkDecoder.decode_indices.Goals as goal
 
 pub returns-in-err-admit-indices : goal.returns-in-err-admit-indices
@@ -57,5 +57,5 @@ returns g c =
     let moved = map_same (shifted (chunk * 1024) 0) (place_in chunk) is (All-weaker (λ i. i < 1024) (λ i. shifted (chunk * 1024) 0 i ≡ place_in chunk i) (λ i _. omega arith) is h.indices) in
     let within = All-map (λ p. p < 1024 * whole_chunks lent) (place_in chunk) is (All-weaker (λ i. i < 1024) (λ i. place_in chunk i < 1024 * whole_chunks lent) (λ i l. omega arith) is h.indices) in
     let wrote = c.copy-at.ensures ∙ ap (λ ps. splice out 0 (gather lent ps)) moved ∙ ap (splice out 0) (sym (part_gather lent (map (place_in chunk) is) within)) in
-    let done = carried-out (holding xs c.args.self.now.left out) chunk is c.chunks.result _ _ c.chunks.ensures ok refl wrote in
+    let done = carried_out (holding xs c.args.self.now.left out) chunk is c.chunks.result _ _ c.chunks.ensures ok refl wrote in
     record { value = done.0; after = done.1 }
