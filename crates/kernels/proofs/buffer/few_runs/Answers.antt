@@ -4,8 +4,8 @@ use lib.Count.{ones}
 use Rattle.kernels.proofs.Runs.{part_ones}
 use Rattle.kernels.proofs.buffer.few_runs.Goals as goal
 
-pub overflow-cast-runs : goal.overflow-cast-runs
-overflow-cast-runs c =
+pub overflow_cast-runs : goal.overflow_cast-runs
+overflow_cast-runs c =
     let w = get_or c.args.words.now c.loop-k.k 0 in
     let fits : w < 2 ^ 64 = search rules in
     let n = part_ones w (2 ^ 64 - 1 - (w * 2) % 2 ^ 64) fits in
@@ -14,8 +14,8 @@ overflow-cast-runs c =
     let small : ones (bit_and w (2 ^ 64 - 1 - (w * 2) % 2 ^ 64)) < 2 ^ 128 = omega arith in
     search rules
 
-pub overflow-add-runs : goal.overflow-add-runs
-overflow-add-runs c =
+pub overflow_add-runs : goal.overflow_add-runs
+overflow_add-runs c =
     let w = get_or c.args.words.now c.loop-k.k 0 in
     let fits : w < 2 ^ 64 = search rules in
     let n = part_ones w (2 ^ 64 - 1 - (w * 2) % 2 ^ 64) fits in
@@ -24,8 +24,8 @@ overflow-add-runs c =
     let small : c.loop-k.runs + ones (bit_and w (2 ^ 64 - 1 - (w * 2) % 2 ^ 64)) < 2 ^ 128 = omega arith in
     search rules
 
-pub overflow-mul-runs : goal.overflow-mul-runs
-overflow-mul-runs c =
+pub overflow_mul-runs : goal.overflow_mul-runs
+overflow_mul-runs c =
     let w = get_or c.args.words.now c.loop-k.k 0 in
     let fits : w < 2 ^ 64 = search rules in
     let n = part_ones w (2 ^ 64 - 1 - (w * 2) % 2 ^ 64) fits in

@@ -4,8 +4,8 @@ use Rattle.kernels.proofs.Masked.{left_done, left_first, left_same, left_turn}
 use Rattle.kernels.proofs.SetBits.{bits_byte, bits_none}
 use Rattle.kernels.proofs.byte_compress.compress_word.Goals as goal
 
-pub compress-byte-at-requires : goal.compress-byte-at-requires
-compress-byte-at-requires g c =
+pub compress_byte-at-requires : goal.compress_byte-at-requires
+compress_byte-at-requires g c =
     let b = c.loop-b.b in
     let w = c.args.word in
     let at = c.args.base in
@@ -25,7 +25,7 @@ loop-b-preserved g c =
     let rest = set_bits (64 - 8 * (b + 1)) (w / 2 ^ (8 * (b + 1))) (at + 8 * (b + 1)) in
     let room : c.args.pos + length (set_bits 64 w at) ≤ length c.loop-b.dst = let r = c.requires.room in omega arith in
     let inv = left_same (here ++ rest) (bits_byte w at b (omega arith)) c.loop-b.invariant in
-    left_turn here rest c.compress-byte-at.result c.compress-byte-at.new.dst inv room c.compress-byte-at.ensures.count c.compress-byte-at.ensures.written
+    left_turn here rest c.compress_byte-at.result c.compress_byte-at.new.dst inv room c.compress_byte-at.ensures.count c.compress_byte-at.ensures.written
 
 pub returns : goal.returns
 returns g c =

@@ -10,8 +10,8 @@ loop-k-init g c =
     let n = length c.args.src.now in
     left_same _ (sym (words_left ws n c.requires.mask)) (record { inside = positions_inside ws n; count = omega arith; written = refl })
 
-pub compress-word-pos-requires : goal.compress-word-pos-requires
-compress-word-pos-requires g c =
+pub compress_word-pos-requires : goal.compress_word-pos-requires
+compress_word-pos-requires g c =
     let ws = c.args.words.now in
     let q = words_bit ws in
     let k = c.loop-k.k in
@@ -33,7 +33,7 @@ loop-k-preserved g c =
     let w = get_or ws k 0 in
     let room : length (mask_positions ws (length c.args.src.now)) ≤ length c.loop-k.dst = let r = c.requires.room in omega arith in
     let inv = left_same (set_bits 64 w (64 * k) ++ left_of q (k + 1) n) (left_word q k n w (omega arith) (word_bits ws k)) c.loop-k.invariant in
-    left_turn (set_bits 64 w (64 * k)) (left_of q (k + 1) n) c.compress-word-pos.result c.compress-word-pos.new.dst inv room c.compress-word-pos.ensures.count c.compress-word-pos.ensures.written
+    left_turn (set_bits 64 w (64 * k)) (left_of q (k + 1) n) c.compress_word-pos.result c.compress_word-pos.new.dst inv room c.compress_word-pos.ensures.count c.compress_word-pos.ensures.written
 
 pub returns : goal.returns
 returns g c =

@@ -11,26 +11,26 @@ loop-j-init g c =
     let e : c.args.pos ≡ c.args.pos + 0 = omega arith in
     record { inside = c.requires.inside; count = omega arith; written = ap (λ n. splice c.args.dst.now n (gather c.args.src.now (set_bits 8 c.args.byte c.args.base))) (sym e) }
 
-pub row-entry-requires : goal.row-entry-requires
-row-entry-requires g c = let n = row_count c.args.byte 0 in let s = row_short c.args.byte 0 in omega arith
+pub row_entry-requires : goal.row_entry-requires
+row_entry-requires g c = let n = row_count c.args.byte 0 in let s = row_short c.args.byte 0 in omega arith
 
-pub overflow-add-dst : goal.overflow-add-dst
-overflow-add-dst g c =
+pub overflow_add-dst : goal.overflow_add-dst
+overflow_add-dst g c =
     let n = row_count c.args.byte c.args.base in
-    let i = row_inside (length c.args.src.now) c.args.byte c.args.base c.loop-j.j c.row-entry.result c.loop-j.invariant.inside (omega arith) c.row-entry.ensures in
-    let fits : c.args.base + c.row-entry.result < 2 ^ 64 = omega arith in
+    let i = row_inside (length c.args.src.now) c.args.byte c.args.base c.loop-j.j c.row_entry.result c.loop-j.invariant.inside (omega arith) c.row_entry.ensures in
+    let fits : c.args.base + c.row_entry.result < 2 ^ 64 = omega arith in
     search rules
 
-pub offset-bounds-src-base : goal.offset-bounds-src-base
-offset-bounds-src-base g c =
+pub offset_bounds-src-base : goal.offset_bounds-src-base
+offset_bounds-src-base g c =
     let n = row_count c.args.byte c.args.base in
-    let i = row_inside (length c.args.src.now) c.args.byte c.args.base c.loop-j.j c.row-entry.result c.loop-j.invariant.inside (omega arith) c.row-entry.ensures in
+    let i = row_inside (length c.args.src.now) c.args.byte c.args.base c.loop-j.j c.row_entry.result c.loop-j.invariant.inside (omega arith) c.row_entry.ensures in
     omega arith
 
 pub bounds-src-base : goal.bounds-src-base
 bounds-src-base g c =
     let n = row_count c.args.byte c.args.base in
-    let i = row_inside (length c.args.src.now) c.args.byte c.args.base c.loop-j.j c.row-entry.result c.loop-j.invariant.inside (omega arith) c.row-entry.ensures in
+    let i = row_inside (length c.args.src.now) c.args.byte c.args.base c.loop-j.j c.row_entry.result c.loop-j.invariant.inside (omega arith) c.row_entry.ensures in
     i
 
 pub bounds-dst-pos : goal.bounds-dst-pos
@@ -40,7 +40,7 @@ pub loop-j-preserved : goal.loop-j-preserved
 loop-j-preserved g c =
     let n = row_count c.args.byte c.args.base in
     let room = c.requires.room in
-    row_turn c.args.byte c.args.base c.args.pos c.loop-j.j c.row-entry.result c.index-src-base.result c.loop-j.invariant (omega arith) c.row-entry.ensures (omega arith) c.index-src-base.is
+    row_turn c.args.byte c.args.base c.args.pos c.loop-j.j c.row_entry.result c.index-src-base.result c.loop-j.invariant (omega arith) c.row_entry.ensures (omega arith) c.index-src-base.is
 
 pub returns : goal.returns
 returns g c =

@@ -6,4 +6,4 @@ use Rattle.kernels.proofs.Masked.{left_of}
 use Rattle.kernels.proofs.lists.list_words.Given as goal
 
 abbrev pub invariant-loop-k : goal.invariant-loop-k
-invariant-loop-k l = Rest l.out l.pos (map (shifted l.base 0) (left_of (words_bit l.words) l.k (length l.words))) (length (mask_positions l.words l.-len)) (splice l.initial.out 0 (map (shifted l.base 0) (mask_positions l.words l.-len)))
+invariant-loop-k l = Rest l.out l.pos (map (shifted l.base 0) (left_of (words_bit l.words) l.k (length l.words))) (length (mask_positions l.words l._len)) (splice l.initial.out 0 (map (shifted l.base 0) (mask_positions l.words l._len)))

@@ -8,8 +8,8 @@ unfolding compacted
 loop-k-init g c =
     left_same _ (sym (mask_left c.args.bits (length c.args.src.now) c.requires.mask)) (record { inside = selected_inside c.args.bits (length c.args.src.now) c.requires.mask; count = omega arith; written = refl })
 
-pub compact-word-pos-requires : goal.compact-word-pos-requires
-compact-word-pos-requires g c =
+pub compact_word-pos-requires : goal.compact_word-pos-requires
+compact_word-pos-requires g c =
     let q = mask_bit c.args.bits in
     let k = c.loop-k.k in
     let n = count_of_words c.args.bits in
@@ -27,7 +27,7 @@ loop-k-preserved g c =
     let w = c.word.result in
     let room : length (selected_by c.args.bits) ≤ length c.loop-k.dst = let r = c.requires.room in omega arith in
     let inv = left_same (set_bits 64 w (64 * k) ++ left_of q (k + 1) n) (left_word q k n w (omega arith) c.word.ensures) c.loop-k.invariant in
-    left_turn (set_bits 64 w (64 * k)) (left_of q (k + 1) n) c.compact-word-pos.result c.compact-word-pos.new.dst inv room c.compact-word-pos.ensures.count c.compact-word-pos.ensures.written
+    left_turn (set_bits 64 w (64 * k)) (left_of q (k + 1) n) c.compact_word-pos.result c.compact_word-pos.new.dst inv room c.compact_word-pos.ensures.count c.compact_word-pos.ensures.written
 
 pub returns : goal.returns
 returns g c =

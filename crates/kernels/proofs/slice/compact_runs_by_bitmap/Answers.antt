@@ -8,8 +8,8 @@ unfolding compacted
 loop-k-init g c =
     left_same _ (sym (mask_left c.args.bits (length c.args.src.now) c.requires.mask)) (record { inside = selected_inside c.args.bits (length c.args.src.now) c.requires.mask; count = omega arith; written = refl })
 
-pub walk-runs-pos-requires : goal.walk-runs-pos-requires
-walk-runs-pos-requires g c =
+pub walk_runs-pos-requires : goal.walk_runs-pos-requires
+walk_runs-pos-requires g c =
     let q = mask_bit c.args.bits in
     let k = c.loop-k.k in
     let n = count_of_words c.args.bits in
@@ -27,7 +27,7 @@ loop-k-preserved g c =
     let w = c.word.result in
     let room : length (selected_by c.args.bits) ≤ length c.loop-k.dst = let r = c.requires.room in omega arith in
     let inv = left_same (set_bits 64 w (64 * k) ++ left_of q (k + 1) n) (left_word q k n w (omega arith) c.word.ensures) c.loop-k.invariant in
-    left_turn (set_bits 64 w (64 * k)) (left_of q (k + 1) n) c.walk-runs-pos.result c.walk-runs-pos.new.dst inv room c.walk-runs-pos.ensures.count c.walk-runs-pos.ensures.written
+    left_turn (set_bits 64 w (64 * k)) (left_of q (k + 1) n) c.walk_runs-pos.result c.walk_runs-pos.new.dst inv room c.walk_runs-pos.ensures.count c.walk_runs-pos.ensures.written
 
 pub returns : goal.returns
 returns g c =

@@ -5,21 +5,21 @@ use Rattle.kernels.specs.Moved.{Within, gather, shifted, splice}
 use Rattle.kernels.proofs.Gathered.{copy_more}
 use Rattle.kernels.proofs.slice.copy_at.Goals as goal
 
-pub overflow-add-dst : goal.overflow-add-dst
-overflow-add-dst g c =
+pub overflow_add-dst : goal.overflow_add-dst
+overflow_add-dst g c =
     let h = All-get_or (Within c.args.up c.args.down (length c.args.src.now)) c.args.indices.now c.loop-k.k 0 c.loop-k-test.true c.requires.inside in
     let fits : get_or c.args.indices.now c.loop-k.k 0 + c.args.up < 2 ^ 64 = h.fits in
     search rules
 
-pub overflow-sub-dst : goal.overflow-sub-dst
-overflow-sub-dst g c = (All-get_or (Within c.args.up c.args.down (length c.args.src.now)) c.args.indices.now c.loop-k.k 0 c.loop-k-test.true c.requires.inside).above
+pub overflow_sub-dst : goal.overflow_sub-dst
+overflow_sub-dst g c = (All-get_or (Within c.args.up c.args.down (length c.args.src.now)) c.args.indices.now c.loop-k.k 0 c.loop-k-test.true c.requires.inside).above
 
 pub bounds-src-indices : goal.bounds-src-indices
 bounds-src-indices g c =
     (All-get_or (Within c.args.up c.args.down (length c.args.src.now)) c.args.indices.now c.loop-k.k 0 c.loop-k-test.true c.requires.inside).below
 
-pub offset-bounds-src-indices : goal.offset-bounds-src-indices
-offset-bounds-src-indices g c =
+pub offset_bounds-src-indices : goal.offset_bounds-src-indices
+offset_bounds-src-indices g c =
     let h = (All-get_or (Within c.args.up c.args.down (length c.args.src.now)) c.args.indices.now c.loop-k.k 0 c.loop-k-test.true c.requires.inside).below in
     omega arith
 

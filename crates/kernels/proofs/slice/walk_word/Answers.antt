@@ -8,8 +8,8 @@ use Rattle.kernels.proofs.SetBits.{no_bits}
 use Rattle.kernels.proofs.Walked.{walk_inside, walk_length, walk_written}
 use Rattle.kernels.proofs.slice.walk_word.Goals as goal
 
-pub overflow-add-dst : goal.overflow-add-dst
-overflow-add-dst g c =
+pub overflow_add-dst : goal.overflow_add-dst
+overflow_add-dst g c =
     let m = c.loop-m.m in
     let inv = c.loop-m.invariant in
     let p : 0 < m = omega arith in
@@ -17,8 +17,8 @@ overflow-add-dst g c =
     let fits : c.args.base + count_trailing_zeros 64 m < 2 ^ 64 = omega arith in
     search rules
 
-pub offset-bounds-src-base : goal.offset-bounds-src-base
-offset-bounds-src-base g c =
+pub offset_bounds-src-base : goal.offset_bounds-src-base
+offset_bounds-src-base g c =
     let m = c.loop-m.m in
     let inv = c.loop-m.invariant in
     let p : 0 < m = omega arith in
@@ -41,8 +41,8 @@ bounds-dst-at g c =
     let room = c.requires.room in
     omega arith
 
-pub overflow-add-at : goal.overflow-add-at
-overflow-add-at g c =
+pub overflow_add-at : goal.overflow_add-at
+overflow_add-at g c =
     let inv = c.loop-m.invariant in
     let p : 0 < c.loop-m.m = omega arith in
     let n = walk_length c.args.base c.loop-m.m p inv.0 in

@@ -11,8 +11,8 @@ use Rattle.slices.proofs.bits.append_runs.Goals as goal
 pub loop-k-init : goal.loop-k-init
 loop-k-init c = going_start _ _ c.args.out.now c.args.acc.now c.requires.room.fill refl
 
-pub append-run-requires : goal.append-run-requires
-append-run-requires c =
+pub append_run-requires : goal.append_run-requires
+append_run-requires c =
     let s = c.args.source in
     let rs = c.args.runs.now in
     let k = c.loop-k.k in
@@ -33,7 +33,7 @@ loop-k-preserved c =
     let xs = map (window_bit s) (range r) in
     let rest = map (window_bit s) (flat_map range (drop (k + 1) rs)) in
     let inv = going_same (xs ++ rest) (runs_taken (window_bit s) rs k c.loop-k-test.true) c.loop-k.invariant in
-    going_turn xs rest c.append-run.new.out c.append-run.new.acc inv c.append-run.ensures
+    going_turn xs rest c.append_run.new.out c.append_run.new.acc inv c.append_run.ensures
 
 pub returns : goal.returns
 returns c = going_done (going_same [] (ap (λ rs. map (window_bit c.args.source) (flat_map range rs)) (drop_all c.loop-k.k c.args.runs.now c.loop-k-test.false)) c.loop-k.invariant)

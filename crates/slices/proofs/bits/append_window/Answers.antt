@@ -14,13 +14,13 @@ loop-k-init c =
     let w = c.args.window in
     going_start _ _ c.args.out.now c.args.acc.now c.requires.room.fill (ap (map (window_bit c.args.source)) (mask_left (Framed w) w.len (window_mask w) ∙ window_selected w))
 
-pub append-word-requires : goal.append-word-requires
-append-word-requires c =
+pub append_word-requires : goal.append_word-requires
+append_word-requires c =
     let s = c.args.source in
     let w = c.args.window in
     let k = c.loop-k.k in
     let n = count_of_words (Framed w) in
-    let up = c.div-ceil-k-end.ensures in
+    let up = c.div_ceil-k-end.ensures in
     let within : k < n = omega arith in
     let xs = map (bit_of (word_of s k)) (set_bits 64 (word_of w k) 0) in
     let rest = map (window_bit s) (left_of (mask_bit (Framed w)) (k + 1) n) in
@@ -34,17 +34,17 @@ loop-k-preserved c =
     let w = c.args.window in
     let k = c.loop-k.k in
     let n = count_of_words (Framed w) in
-    let up = c.div-ceil-k-end.ensures in
+    let up = c.div_ceil-k-end.ensures in
     let within : k < n = omega arith in
     let xs = map (bit_of (word_of s k)) (set_bits 64 (word_of w k) 0) in
     let rest = map (window_bit s) (left_of (mask_bit (Framed w)) (k + 1) n) in
     let inv = going_same (xs ++ rest) (left_taken s w c.requires.same k n within) c.loop-k.invariant in
     let same : map (bit_of c.word.result) (set_bits 64 c.word-in-loop-k.result 0) ≡ xs = ap₂ (λ a b. map (bit_of a) (set_bits 64 b 0)) c.word.ensures c.word-in-loop-k.ensures in
-    going_turn xs rest c.append-word.new.out c.append-word.new.acc inv (subst (λ ys. Adds ys c.loop-k.out c.loop-k.acc c.append-word.new.out c.append-word.new.acc) same c.append-word.ensures)
+    going_turn xs rest c.append_word.new.out c.append_word.new.acc inv (subst (λ ys. Adds ys c.loop-k.out c.loop-k.acc c.append_word.new.out c.append_word.new.acc) same c.append_word.ensures)
 
 pub returns : goal.returns
 returns c =
     let w = c.args.window in
-    let up = c.div-ceil-k-end.ensures in
+    let up = c.div_ceil-k-end.ensures in
     let past : count_of_words (Framed w) ≤ c.loop-k.k = omega arith in
     going_done (going_same [] (ap (map (window_bit c.args.source)) (left_none (mask_bit (Framed w)) c.loop-k.k (count_of_words (Framed w)) past)) c.loop-k.invariant)

@@ -36,7 +36,7 @@ pub returns-then-mask-ne0 : goal.returns-then-mask-ne0
 returns-then-mask-ne0 c =
     let ps = set_bits 64 c.args.mask 0 in
     let fits : c.args.mask < 2 ^ 64 = search rules in
-    c.append-then-mask-ne0.ensures (map (bit_of c.args.word) ps) (length-map ps (bit_of c.args.word) ∙ word_count 64 c.args.mask fits) (word_taken c.args.word c.args.mask c.pext-fallback.result c.pext-fallback.ensures.value)
+    c.append-then-mask-ne0.ensures (map (bit_of c.args.word) ps) (length-map ps (bit_of c.args.word) ∙ word_count 64 c.args.mask fits) (word_taken c.args.word c.args.mask c.pext_fallback.result c.pext_fallback.ensures.value)
 
 pub returns-else-mask-ne0 : goal.returns-else-mask-ne0
 returns-else-mask-ne0 c =

@@ -7,7 +7,7 @@ use Rattle.slices.proofs.bits.write_selected.Goals as goal
 
 pub finish-requires : goal.finish-requires
 finish-requires c =
-    let adds = c.append-selected.ensures in
+    let adds = c.append_selected.ensures in
     let all = adds.count in
     let long = adds.long in
     let room = c.requires.room in
@@ -19,4 +19,4 @@ finish-requires c =
 pub returns : goal.returns
 returns c =
     let before = c.args.out.now in
-    c.finish.ensures (picked_bits c.args.source c.args.selection) before (c.append-selected.ensures.holds [] before (holds_none before c.new-acc.result c.new-acc.ensures.low c.new-acc.ensures.fill c.new-acc.ensures.at))
+    c.finish.ensures (picked_bits c.args.source c.args.selection) before (c.append_selected.ensures.holds [] before (holds_none before c.new-acc.result c.new-acc.ensures.low c.new-acc.ensures.fill c.new-acc.ensures.at))

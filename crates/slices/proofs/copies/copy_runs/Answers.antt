@@ -12,21 +12,21 @@ pub loop-k-init : goal.loop-k-init
 unfolding compacted
 loop-k-init g c = record { inside = ranges_inside (length c.args.values.now) c.args.runs.now c.requires.rising; count = omega arith; written = refl }
 
-pub overflow-sub-n : goal.overflow-sub-n
-overflow-sub-n g c =
+pub overflow_sub-n : goal.overflow_sub-n
+overflow_sub-n g c =
     let rs = c.args.runs.now in
     let room : length (flat_map range rs) ≤ length c.loop-k.out = let r = c.requires.room in omega arith in
     (run_fits rs c.loop-k.k c.loop-k-test.true c.loop-k.invariant room c.requires.rising).0
 
-pub copy-to-requires : goal.copy-to-requires
-copy-to-requires g c =
+pub copy_to-requires : goal.copy_to-requires
+copy_to-requires g c =
     let rs = c.args.runs.now in
     let room : length (flat_map range rs) ≤ length c.loop-k.out = let r = c.requires.room in omega arith in
     let fit = run_fits rs c.loop-k.k c.loop-k-test.true c.loop-k.invariant room c.requires.rising in
     record { room = fit.1; inside = fit.2 }
 
-pub overflow-add-pos : goal.overflow-add-pos
-overflow-add-pos g c =
+pub overflow_add-pos : goal.overflow_add-pos
+overflow_add-pos g c =
     let rs = c.args.runs.now in
     let r = get_or rs c.loop-k.k no_run in
     let room : length (flat_map range rs) ≤ length c.loop-k.out = let r = c.requires.room in omega arith in
@@ -38,7 +38,7 @@ pub loop-k-preserved : goal.loop-k-preserved
 loop-k-preserved g c =
     let rs = c.args.runs.now in
     let room : length (flat_map range rs) ≤ length c.loop-k.out = let r = c.requires.room in omega arith in
-    run_copied rs c.loop-k.k c.loop-k-test.true c.loop-k.invariant room c.copy-to.new.dst c.copy-to.ensures
+    run_copied rs c.loop-k.k c.loop-k-test.true c.loop-k.invariant room c.copy_to.new.dst c.copy_to.ensures
 
 pub returns : goal.returns
 returns g c = (left_done (left_same [] (ap (flat_map range) (drop_all c.loop-k.k c.args.runs.now c.loop-k-test.false)) c.loop-k.invariant)).1

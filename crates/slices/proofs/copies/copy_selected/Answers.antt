@@ -7,8 +7,8 @@ use Rattle.slices.proofs.Admitted.{copy_passed, place_passed}
 use Rattle.slices.proofs.Formed.{bitmap_mask, bitmap_picks, indices_picks, indices_rise, left_by, left_unshifted, rising_within_64, runs_follow, runs_picks}
 use Rattle.slices.proofs.copies.copy_selected.Goals as goal
 
-pub compact-bits-requires : goal.compact-bits-requires
-compact-bits-requires g c =
+pub compact_bits-requires : goal.compact_bits-requires
+compact_bits-requires g c =
     let s = c.args.selection in
     let n = length c.args.values.now in
     let all = copy_passed s n (length c.args.out.now) c.requires in
@@ -16,8 +16,8 @@ compact-bits-requires g c =
     let room = all.1 in
     record { mask = bitmap_mask s c.in-Bitmap.window n c.in-Bitmap.is (place_passed s n all.0).1; room = omega arith }
 
-pub copy-at-requires : goal.copy-at-requires
-copy-at-requires g c =
+pub copy_at-requires : goal.copy_at-requires
+copy_at-requires g c =
     let s = c.args.selection in
     let n = length c.args.values.now in
     let xs = c.in-Indices.indices in
@@ -28,8 +28,8 @@ copy-at-requires g c =
     let fits : n < 2 ^ 64 = search rules in
     record { room = omega arith; inside = rising_within_64 n xs.now fits (indices_rise s xs c.in-Indices.len n c.in-Indices.is formed.0 formed.1) }
 
-pub copy-runs-requires : goal.copy-runs-requires
-copy-runs-requires g c =
+pub copy_runs-requires : goal.copy_runs-requires
+copy_runs-requires g c =
     let s = c.args.selection in
     let n = length c.args.values.now in
     let all = copy_passed s n (length c.args.out.now) c.requires in
@@ -42,7 +42,7 @@ pub returns-in-Bitmap : goal.returns-in-Bitmap
 returns-in-Bitmap g c =
     let s = c.args.selection in
     let e = bitmap_picks s c.in-Bitmap.window c.in-Bitmap.is in
-    left_by c.args.values.now c.args.out.now c.compact-bits.new.dst (selected_by (Window c.in-Bitmap.window)) (positions s) c.compact-bits.ensures.written e
+    left_by c.args.values.now c.args.out.now c.compact_bits.new.dst (selected_by (Window c.in-Bitmap.window)) (positions s) c.compact_bits.ensures.written e
 
 pub returns-in-Indices : goal.returns-in-Indices
 returns-in-Indices g c =
@@ -51,7 +51,7 @@ returns-in-Indices g c =
     let xs = c.in-Indices.indices in
     let formed = place_passed s n (copy_passed s n (length c.args.out.now) c.requires).0 in
     let e = indices_picks s xs c.in-Indices.len c.in-Indices.is formed.0 in
-    left_unshifted c.args.values.now c.args.out.now c.copy-at.new.dst xs.now (positions s) c.copy-at.ensures e
+    left_unshifted c.args.values.now c.args.out.now c.copy_at.new.dst xs.now (positions s) c.copy_at.ensures e
 
 pub returns-in-Runs : goal.returns-in-Runs
 returns-in-Runs g c =
@@ -60,4 +60,4 @@ returns-in-Runs g c =
     let rs = c.in-Runs.runs in
     let formed = place_passed s n (copy_passed s n (length c.args.out.now) c.requires).0 in
     let e = runs_picks s rs c.in-Runs.len c.in-Runs.is formed.0 in
-    left_by c.args.values.now c.args.out.now c.copy-runs.new.out (flat_map range rs.now) (positions s) c.copy-runs.ensures e
+    left_by c.args.values.now c.args.out.now c.copy_runs.new.out (flat_map range rs.now) (positions s) c.copy_runs.ensures e

@@ -12,8 +12,8 @@ loop-k-init g c =
     let n = length c.args.values.now in
     held_same _ (sym (mask_left c.args.bits n c.requires)) (held_all c.args.values.now 0 (selected_by c.args.bits) (mask_rises c.args.bits n c.requires))
 
-pub move-word-pos-requires : goal.move-word-pos-requires
-move-word-pos-requires g c =
+pub move_word-pos-requires : goal.move_word-pos-requires
+move_word-pos-requires g c =
     let q = mask_bit c.args.bits in
     let k = c.loop-k.k in
     let n = count_of_words c.args.bits in
@@ -33,7 +33,7 @@ loop-k-preserved g c =
     let most = rising_length 0 len (selected_by c.args.bits) (mask_rises c.args.bits len c.requires) in
     let room : 0 + length (selected_by c.args.bits) ≤ len = omega arith in
     let inv = held_same (set_bits 64 w (64 * k) ++ left_of q (k + 1) n) (left_word q k n w (omega arith) c.word.ensures) c.loop-k.invariant in
-    held_turn (set_bits 64 w (64 * k)) (left_of q (k + 1) n) c.move-word-pos.result c.move-word-pos.new.values inv size room c.move-word-pos.ensures.count c.move-word-pos.ensures.written
+    held_turn (set_bits 64 w (64 * k)) (left_of q (k + 1) n) c.move_word-pos.result c.move_word-pos.new.values inv size room c.move_word-pos.ensures.count c.move_word-pos.ensures.written
 
 pub returns : goal.returns
 returns g c = (held_done (held_same [] (left_none (mask_bit c.args.bits) c.loop-k.k (count_of_words c.args.bits) (omega arith)) c.loop-k.invariant)).1

@@ -9,8 +9,8 @@ pub loop-place-init : goal.loop-place-init
 unfolding compacted
 loop-place-init g c = held_all c.args.values.now 0 c.args.indices.now c.requires
 
-pub offset-bounds-values-indices : goal.offset-bounds-values-indices
-offset-bounds-values-indices g c =
+pub offset_bounds-values-indices : goal.offset_bounds-values-indices
+offset_bounds-values-indices g c =
     let i = (rising_get_d 0 (length c.args.values.now) c.args.indices.now c.loop-place.place c.requires c.loop-place-test.true).1 in
     let inside : get_or c.args.indices.now c.loop-place.place 0 < length c.loop-place.values = omega arith in
     search rules
@@ -20,8 +20,8 @@ bounds-values-indices g c =
     let i = (rising_get_d 0 (length c.args.values.now) c.args.indices.now c.loop-place.place c.requires c.loop-place-test.true).1 in
     omega arith
 
-pub offset-bounds-values-place : goal.offset-bounds-values-place
-offset-bounds-values-place g c =
+pub offset_bounds-values-place : goal.offset_bounds-values-place
+offset_bounds-values-place g c =
     let most = rising_length 0 (length c.args.values.now) c.args.indices.now c.requires in
     let inside : c.loop-place.place < length c.loop-place.values = omega arith in
     search rules

@@ -11,16 +11,16 @@ loop-m-init g c =
     let fits : c.args.word < 2 ^ 64 = search rules in
     (fits, held_all c.args.values.now c.args.pos (set_bits 64 c.args.word c.args.base) c.requires)
 
-pub overflow-add-values : goal.overflow-add-values
-overflow-add-values g c =
+pub overflow_add-values : goal.overflow_add-values
+overflow_add-values g c =
     let m = c.loop-m.m in
     let p : 0 < m = omega arith in
     let i = (bit_fits m c.args.base p c.loop-m.invariant.0 c.loop-m.invariant.1).1 in
     let fits : c.args.base + count_trailing_zeros 64 m < 2 ^ 64 = omega arith in
     search rules
 
-pub offset-bounds-values-base : goal.offset-bounds-values-base
-offset-bounds-values-base g c =
+pub offset_bounds-values-base : goal.offset_bounds-values-base
+offset_bounds-values-base g c =
     let m = c.loop-m.m in
     let p : 0 < m = omega arith in
     let i = (bit_fits m c.args.base p c.loop-m.invariant.0 c.loop-m.invariant.1).1 in
@@ -34,8 +34,8 @@ bounds-values-base g c =
     let i = (bit_fits m c.args.base p c.loop-m.invariant.0 c.loop-m.invariant.1).1 in
     omega arith
 
-pub offset-bounds-values-at : goal.offset-bounds-values-at
-offset-bounds-values-at g c =
+pub offset_bounds-values-at : goal.offset_bounds-values-at
+offset_bounds-values-at g c =
     let m = c.loop-m.m in
     let p : 0 < m = omega arith in
     let i = bit_fits m c.args.base p c.loop-m.invariant.0 c.loop-m.invariant.1 in
@@ -53,8 +53,8 @@ bounds-values-at g c =
     let high = i.1 in
     omega arith
 
-pub overflow-add-at : goal.overflow-add-at
-overflow-add-at g c =
+pub overflow_add-at : goal.overflow_add-at
+overflow_add-at g c =
     let m = c.loop-m.m in
     let p : 0 < m = omega arith in
     let i = bit_fits m c.args.base p c.loop-m.invariant.0 c.loop-m.invariant.1 in

@@ -11,17 +11,17 @@ pub loop-k-init : goal.loop-k-init
 unfolding compacted
 loop-k-init g c = held_all c.args.values.now 0 (flat_map range c.args.runs.now) (ranges_rise 0 (length c.args.values.now) c.args.runs.now c.requires)
 
-pub overflow-sub-n : goal.overflow-sub-n
-overflow-sub-n g c = (run_down c.args.runs.now c.loop-k.k c.loop-k-test.true c.loop-k.invariant c.requires).0
+pub overflow_sub-n : goal.overflow_sub-n
+overflow_sub-n g c = (run_down c.args.runs.now c.loop-k.k c.loop-k-test.true c.loop-k.invariant c.requires).0
 
-pub move-block-requires : goal.move-block-requires
-move-block-requires g c =
+pub move_block-requires : goal.move_block-requires
+move_block-requires g c =
     let down = run_down c.args.runs.now c.loop-k.k c.loop-k-test.true c.loop-k.invariant c.requires in
     let inside = down.2 in
     record { down = down.1; inside = omega arith }
 
-pub overflow-add-pos : goal.overflow-add-pos
-overflow-add-pos g c =
+pub overflow_add-pos : goal.overflow_add-pos
+overflow_add-pos g c =
     let r = get_or c.args.runs.now c.loop-k.k no_run in
     let down = run_down c.args.runs.now c.loop-k.k c.loop-k-test.true c.loop-k.invariant c.requires in
     let low = down.1 in
@@ -32,7 +32,7 @@ overflow-add-pos g c =
 pub loop-k-preserved : goal.loop-k-preserved
 loop-k-preserved g c =
     let size : length c.loop-k.values ≡ length c.args.values.now = omega arith in
-    run_moved c.args.runs.now c.loop-k.k c.loop-k-test.true c.loop-k.invariant c.requires c.move-block.new.values size c.move-block.ensures
+    run_moved c.args.runs.now c.loop-k.k c.loop-k-test.true c.loop-k.invariant c.requires c.move_block.new.values size c.move_block.ensures
 
 pub returns : goal.returns
 returns g c = (held_done (held_same [] (ap (flat_map range) (drop_all c.loop-k.k c.args.runs.now c.loop-k-test.false)) c.loop-k.invariant)).1

@@ -7,21 +7,21 @@ use Rattle.slices.proofs.Admitted.{place_passed}
 use Rattle.slices.proofs.Formed.{bitmap_mask, bitmap_picks, indices_picks, indices_rise, left_by, runs_follow, runs_picks}
 use Rattle.slices.proofs.in_place.move_selected.Goals as goal
 
-pub move-bits-requires : goal.move-bits-requires
-move-bits-requires g c =
+pub move_bits-requires : goal.move_bits-requires
+move_bits-requires g c =
     let s = c.args.selection in
     let n = length c.args.values.now in
     bitmap_mask s c.in-Bitmap.window n c.in-Bitmap.is (place_passed s n c.requires).1
 
-pub move-indices-requires : goal.move-indices-requires
-move-indices-requires g c =
+pub move_indices-requires : goal.move_indices-requires
+move_indices-requires g c =
     let s = c.args.selection in
     let n = length c.args.values.now in
     let formed = place_passed s n c.requires in
     indices_rise s c.in-Indices.indices c.in-Indices.len n c.in-Indices.is formed.0 formed.1
 
-pub move-runs-requires : goal.move-runs-requires
-move-runs-requires g c =
+pub move_runs-requires : goal.move_runs-requires
+move_runs-requires g c =
     let s = c.args.selection in
     let n = length c.args.values.now in
     let formed = place_passed s n c.requires in
@@ -31,7 +31,7 @@ pub returns-in-Bitmap : goal.returns-in-Bitmap
 returns-in-Bitmap g c =
     let s = c.args.selection in
     let e = bitmap_picks s c.in-Bitmap.window c.in-Bitmap.is in
-    left_by c.args.values.now c.args.values.now c.move-bits.new.values (selected_by (Window c.in-Bitmap.window)) (positions s) c.move-bits.ensures e
+    left_by c.args.values.now c.args.values.now c.move_bits.new.values (selected_by (Window c.in-Bitmap.window)) (positions s) c.move_bits.ensures e
 
 pub returns-in-Indices : goal.returns-in-Indices
 returns-in-Indices g c =
@@ -39,7 +39,7 @@ returns-in-Indices g c =
     let xs = c.in-Indices.indices in
     let formed = place_passed s (length c.args.values.now) c.requires in
     let e = indices_picks s xs c.in-Indices.len c.in-Indices.is formed.0 in
-    left_by c.args.values.now c.args.values.now c.move-indices.new.values xs.now (positions s) c.move-indices.ensures e
+    left_by c.args.values.now c.args.values.now c.move_indices.new.values xs.now (positions s) c.move_indices.ensures e
 
 pub returns-in-Runs : goal.returns-in-Runs
 returns-in-Runs g c =
@@ -47,4 +47,4 @@ returns-in-Runs g c =
     let rs = c.in-Runs.runs in
     let formed = place_passed s (length c.args.values.now) c.requires in
     let e = runs_picks s rs c.in-Runs.len c.in-Runs.is formed.0 in
-    left_by c.args.values.now c.args.values.now c.move-runs.new.values (flat_map range rs.now) (positions s) c.move-runs.ensures e
+    left_by c.args.values.now c.args.values.now c.move_runs.new.values (flat_map range rs.now) (positions s) c.move_runs.ensures e

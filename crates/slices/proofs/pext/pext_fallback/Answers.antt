@@ -11,21 +11,21 @@ loop-b-init c =
     let e = bits_none c.args.mask 0 in
     (sym (ap (λ ps. packed (map (bit_of c.args.src) ps)) e), sym (ap length e))
 
-pub overflow-cast-all : goal.overflow-cast-all
-overflow-cast-all c =
+pub overflow_cast-all : goal.overflow_cast-all
+overflow_cast-all c =
     let h = set_short (8 * c.loop-b.b) c.args.mask 0 in
     let e = c.loop-b.invariant.1 in
     let fits : c.loop-b.done < 2 ^ 64 = omega arith in
     search rules
 
-pub overflow-shl-all : goal.overflow-shl-all
-overflow-shl-all c =
+pub overflow_shl-all : goal.overflow_shl-all
+overflow_shl-all c =
     let h = set_short (8 * c.loop-b.b) c.args.mask 0 in
     let e = c.loop-b.invariant.1 in
     omega arith
 
-pub overflow-add-done : goal.overflow-add-done
-overflow-add-done c =
+pub overflow_add-done : goal.overflow_add-done
+overflow_add-done c =
     let h = set_short (8 * c.loop-b.b) c.args.mask 0 in
     let e = c.loop-b.invariant.1 in
     let fits : c.loop-b.done + c.from-done.result < 2 ^ 32 = omega arith in
@@ -33,9 +33,9 @@ overflow-add-done c =
 
 pub loop-b-preserved : goal.loop-b-preserved
 loop-b-preserved c =
-    let n = c.from-done.ensures ∙ c.table-entry.ensures in (
-      byte_more c.args.src c.args.mask c.loop-b.b c.loop-b.all c.loop-b.done c.pext-byte.result c.from-done.result c.loop-b-test.true c.loop-b.invariant.0 c.loop-b.invariant.1 c.pext-byte.ensures n,
-      byte_count c.args.src c.args.mask c.loop-b.b c.loop-b.all c.loop-b.done c.pext-byte.result c.from-done.result c.loop-b-test.true c.loop-b.invariant.0 c.loop-b.invariant.1 c.pext-byte.ensures n,
+    let n = c.from-done.ensures ∙ c.table_entry.ensures in (
+      byte_more c.args.src c.args.mask c.loop-b.b c.loop-b.all c.loop-b.done c.pext_byte.result c.from-done.result c.loop-b-test.true c.loop-b.invariant.0 c.loop-b.invariant.1 c.pext_byte.ensures n,
+      byte_count c.args.src c.args.mask c.loop-b.b c.loop-b.all c.loop-b.done c.pext_byte.result c.from-done.result c.loop-b-test.true c.loop-b.invariant.0 c.loop-b.invariant.1 c.pext_byte.ensures n,
     )
 
 pub returns : goal.returns

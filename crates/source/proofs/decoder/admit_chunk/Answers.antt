@@ -5,4 +5,4 @@ use Rattle.source.proofs.Fetches.{whole_inside, whole_length}
 use Rattle.source.proofs.decoder.admit_chunk.Goals as goal
 
 pub returns : goal.returns
-returns c = let e = c.admit-count.ensures in rw (whole_inside, whole_length) (grind (arith, nat_tests))
+returns c = let e = c.admit_count.ensures in rw (whole_inside, whole_length) (grind (arith, nat_tests))

@@ -6,8 +6,8 @@ use Rattle.source.specs.Packing.{reading_at}
 use Rattle.source.proofs.Unpacked.{at_more}
 use Rattle.source.proofs.packs.unpack_at.Goals as goal
 
-pub overflow-add-from : goal.overflow-add-from
-overflow-add-from c =
+pub overflow_add-from : goal.overflow_add-from
+overflow_add-from c =
     let small : get_or c.args.indices.now c.loop-k.k 0 < 1024 = All-get_or (λ i. i < 1024) c.args.indices.now c.loop-k.k 0 c.loop-k-test.true c.requires.inside in
     let room = c.requires.near in
     let fits : c.args.from + get_or c.args.indices.now c.loop-k.k 0 < 2 ^ 64 = omega arith in

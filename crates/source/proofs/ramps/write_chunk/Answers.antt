@@ -15,7 +15,7 @@ loop-k-preserved c =
     let k = c.loop-k.k in
     let size = whole_length in
     let here = whole_get_d k c.loop-k-test.true in
-    let value : c.ramp-reading.result ≡ f (get_or whole_chunk k 0) = c.ramp-reading.ensures ∙ ap (ramp_at c.args.start c.args.step) (omega arith) in
+    let value : c.ramp_reading.result ≡ f (get_or whole_chunk k 0) = c.ramp_reading.ensures ∙ ap (ramp_at c.args.start c.args.step) (omega arith) in
     ap₂ (λ xs v. set xs k v) c.loop-k.invariant value ∙ write_more f whole_chunk c.args.output.now k (let taken = c.loop-k-test.true in omega arith) (let taken = c.loop-k-test.true in let room = c.requires.room in omega arith)
 
 pub returns : goal.returns

@@ -8,10 +8,10 @@ returns c =
     let w = c.args.width in
     let n = c.args.chunks in
     let size = c.if-bytes-size.false ∙ ap (λ b. 128 * b * n) c.from.ensures in (
-      packed_formed bytes w n c.if-width-eq0.false c.if-width-gt-MAX-WIDTH.false c.if-chunks-gt-MAX-CHUNKS.false size,
+      packed_formed bytes w n c.if-width-eq0.false c.if-width-gt-MAX_WIDTH.false c.if-chunks-gt-MAX_CHUNKS.false size,
       refl,
       refl,
       refl,
       refl,
-      packed_all bytes w n c.if-width-gt-MAX-WIDTH.false c.if-chunks-gt-MAX-CHUNKS.false,
+      packed_all bytes w n c.if-width-gt-MAX_WIDTH.false c.if-chunks-gt-MAX_CHUNKS.false,
     )

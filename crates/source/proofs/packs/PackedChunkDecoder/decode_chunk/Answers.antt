@@ -10,24 +10,24 @@ use Rattle.source.proofs.Fetches.{admitted, carried_out, whole_below, whole_leng
 use Rattle.source.proofs.Unpacked.{packed_gather}
 use Rattle.source.proofs.packs.PackedChunkDecoder.decode_chunk.Goals as goal
 
-pub returns-in-err-admit-chunk : goal.returns-in-err-admit-chunk
+pub returns-in_err-admit_chunk : goal.returns-in_err-admit_chunk
 unfolding fetch_fault fetched
-returns-in-err-admit-chunk c = record { value = search rules; after = search rules }
+returns-in_err-admit_chunk c = record { value = search rules; after = search rules }
 
-pub overflow-mul-chunk : goal.overflow-mul-chunk
-overflow-mul-chunk c =
+pub overflow_mul-chunk : goal.overflow_mul-chunk
+overflow_mul-chunk c =
     let p = c.args.self.now in
-    let ok = answered_ok _ _ _ (sym c.in-ok-admit-chunk.ensures) in
+    let ok = answered_ok _ _ _ (sym c.in_ok-admit_chunk.ensures) in
     let h = admitted c.chunks.result p.left (length c.args.output.now) c.args.chunk whole_chunk ok in
     let n = c.chunks.ensures ∙ packed_chunks p.bytes.now p.width p.chunks in
     let inside = h.chunk in
     let fits : c.args.chunk * 1024 < 2 ^ 64 = omega arith in
     search rules
 
-pub unpack-part-requires : goal.unpack-part-requires
-unpack-part-requires c =
+pub unpack_part-requires : goal.unpack_part-requires
+unpack_part-requires c =
     let p = c.args.self.now in
-    let ok = answered_ok _ _ _ (sym c.in-ok-admit-chunk.ensures) in
+    let ok = answered_ok _ _ _ (sym c.in_ok-admit_chunk.ensures) in
     let h = admitted c.chunks.result p.left (length c.args.output.now) c.args.chunk whole_chunk ok in
     let n = c.chunks.ensures ∙ packed_chunks p.bytes.now p.width p.chunks in
     let inside = h.chunk in
@@ -35,10 +35,10 @@ unpack-part-requires c =
     let w = c.min-width.ensures in
     record { narrow = omega arith; near = omega arith; room = omega arith }
 
-pub overflow-sub-self : goal.overflow-sub-self
-overflow-sub-self c =
+pub overflow_sub-self : goal.overflow_sub-self
+overflow_sub-self c =
     let p = c.args.self.now in
-    let ok = answered_ok _ _ _ (sym c.in-ok-admit-chunk.ensures) in
+    let ok = answered_ok _ _ _ (sym c.in_ok-admit_chunk.ensures) in
     let h = admitted c.chunks.result p.left (length c.args.output.now) c.args.chunk whole_chunk ok in
     let size = whole_length in
     omega arith
@@ -50,14 +50,14 @@ returns c =
     let xs = packed_readings bytes p.width p.chunks in
     let out = c.args.output.now in
     let chunk = c.args.chunk in
-    let ok : first_of (objections c.chunks.result p.left (length out) chunk whole_chunk) ≡ None = answered_ok _ _ _ (sym c.in-ok-admit-chunk.ensures) in
+    let ok : first_of (objections c.chunks.result p.left (length out) chunk whole_chunk) ≡ None = answered_ok _ _ _ (sym c.in_ok-admit_chunk.ensures) in
     let inside = (admitted c.chunks.result p.left (length out) chunk whole_chunk ok).chunk in
     let n = c.chunks.ensures ∙ packed_chunks bytes p.width p.chunks in
     let left : p.left - 1024 ≡ p.left - length whole_chunk = let size = whole_length in omega arith in
     let most : ℕ = 1024 * min p.chunks 16384 in
     let within = All-map (λ q. q < most) (place_in chunk) whole_chunk (All-weaker (λ i. i < 1024) (λ i. place_in chunk i < most) (λ i l. omega arith) whole_chunk whole_below) in
     let wrote : _ ≡ splice out 0 (gather xs (map (place_in chunk) whole_chunk)) =
-    c.unpack-part.ensures
+    c.unpack_part.ensures
     ∙ ap₂ (λ (w b : ℕ). splice out 0 (map (reading_at bytes w) (range_with_len b 1024))) c.min-width.ensures (mul_comm chunk 1024)
     ∙ ap (λ ps. splice out 0 (map (reading_at bytes (min p.width 32)) ps)) (sym (whole_places chunk))
     ∙ ap (splice out 0) (sym (packed_gather bytes p.width p.chunks (map (place_in chunk) whole_chunk) within)) in

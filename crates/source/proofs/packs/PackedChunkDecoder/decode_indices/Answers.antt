@@ -9,34 +9,34 @@ use Rattle.source.proofs.Fetches.{admitted, carried_out}
 use Rattle.source.proofs.Unpacked.{packed_gather}
 use Rattle.source.proofs.packs.PackedChunkDecoder.decode_indices.Goals as goal
 
-pub returns-in-err-admit-indices : goal.returns-in-err-admit-indices
+pub returns-in_err-admit_indices : goal.returns-in_err-admit_indices
 unfolding fetch_fault fetched
-returns-in-err-admit-indices c = record { value = search rules; after = search rules }
+returns-in_err-admit_indices c = record { value = search rules; after = search rules }
 
-pub overflow-mul-chunk : goal.overflow-mul-chunk
-overflow-mul-chunk c =
+pub overflow_mul-chunk : goal.overflow_mul-chunk
+overflow_mul-chunk c =
     let p = c.args.self.now in
-    let ok = answered_ok _ _ _ (sym c.in-ok-admit-indices.ensures) in
+    let ok = answered_ok _ _ _ (sym c.in_ok-admit_indices.ensures) in
     let h = admitted c.chunks.result p.left (length c.args.output.now) c.args.chunk c.args.indices.now ok in
     let n = c.chunks.ensures ∙ packed_chunks p.bytes.now p.width p.chunks in
     let inside = h.chunk in
     let fits : c.args.chunk * 1024 < 2 ^ 64 = omega arith in
     search rules
 
-pub unpack-at-requires : goal.unpack-at-requires
-unpack-at-requires c =
+pub unpack_at-requires : goal.unpack_at-requires
+unpack_at-requires c =
     let p = c.args.self.now in
-    let ok = answered_ok _ _ _ (sym c.in-ok-admit-indices.ensures) in
+    let ok = answered_ok _ _ _ (sym c.in_ok-admit_indices.ensures) in
     let h = admitted c.chunks.result p.left (length c.args.output.now) c.args.chunk c.args.indices.now ok in
     let n = c.chunks.ensures ∙ packed_chunks p.bytes.now p.width p.chunks in
     let inside = h.chunk in
     let w = c.min-width.ensures in
     record { narrow = omega arith; near = omega arith; inside = h.indices; room = h.places }
 
-pub overflow-sub-self : goal.overflow-sub-self
-overflow-sub-self c =
+pub overflow_sub-self : goal.overflow_sub-self
+overflow_sub-self c =
     let p = c.args.self.now in
-    let ok = answered_ok _ _ _ (sym c.in-ok-admit-indices.ensures) in
+    let ok = answered_ok _ _ _ (sym c.in_ok-admit_indices.ensures) in
     (admitted c.chunks.result p.left (length c.args.output.now) c.args.chunk c.args.indices.now ok).payable
 
 pub returns : goal.returns
@@ -47,14 +47,14 @@ returns c =
     let out = c.args.output.now in
     let is = c.args.indices.now in
     let chunk = c.args.chunk in
-    let ok : first_of (objections c.chunks.result p.left (length out) chunk is) ≡ None = answered_ok _ _ _ (sym c.in-ok-admit-indices.ensures) in
+    let ok : first_of (objections c.chunks.result p.left (length out) chunk is) ≡ None = answered_ok _ _ _ (sym c.in_ok-admit_indices.ensures) in
     let h = admitted c.chunks.result p.left (length out) chunk is ok in
     let inside = h.chunk in
     let n = c.chunks.ensures ∙ packed_chunks bytes p.width p.chunks in
     let most : ℕ = 1024 * min p.chunks 16384 in
     let within = All-map (λ q. q < most) (place_in chunk) is (All-weaker (λ i. i < 1024) (λ i. place_in chunk i < most) (λ i l. omega arith) is h.indices) in
     let wrote : _ ≡ splice out 0 (gather xs (map (place_in chunk) is)) =
-    c.unpack-at.ensures
+    c.unpack_at.ensures
     ∙ ap₂ (λ (w b : ℕ). splice out 0 (map (reading_at bytes w) (map (λ i. b + i) is))) c.min-width.ensures (mul_comm chunk 1024)
     ∙ ap (splice out 0) (sym (packed_gather bytes p.width p.chunks (map (place_in chunk) is) within)) in
     let done = carried_out (holding xs p.left out) chunk is c.chunks.result _ _ c.chunks.ensures ok refl wrote in

@@ -6,5 +6,5 @@ use Rattle.source.proofs.tables.Table.new.Goals as goal
 pub returns : goal.returns
 returns g c =
     let even = c.if-len-ne0.false in
-    let few = c.if-len-gt-MAX-CHUNKS.false in
+    let few = c.if-len-gt-MAX_CHUNKS.false in
     (grind (arith, nat_tests), refl, part_all c.args.lent.now even few, refl)
