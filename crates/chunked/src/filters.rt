@@ -69,7 +69,7 @@ impl<D: ChunkDecoder> ChunkedFilter<D> {
 
     /// What a push is measured against, with an output and a scratch of such lengths.
     fn terms(&self, output: usize, scratch: usize) -> Terms
-        ensures { result ≡ record { limit = (limit_at_width Item-as-Element.bytes); chunks = chunks_of (D.ChunkDecoder.readings self.now.source); left = D.ChunkDecoder.allowance self.now.source; free = output - self.now.written; scratch = scratch } }
+        ensures { result ≡ record { limit = (limit_at_width D.Item.Element.bytes); chunks = chunks_of (D.ChunkDecoder.readings self.now.source); left = D.ChunkDecoder.allowance self.now.source; free = output - self.now.written; scratch = scratch } }
     {
         Terms {
             limit: sparse_limit::<D::Item>(),

@@ -10,8 +10,8 @@ use Rattle.kernels.proofs.Gathered.{gather_append, gather_counting, length_gathe
 use Rattle.chunked.proofs.Spanning.{counting_less, put_rest_more, span_inside, span_take_count, span_take_more, span_take_most}
 use Rattle.chunked.proofs.serve.copy_runs.Goals as goal
 
-pub cut-run-piece-requires : goal.cut-run-piece-requires
-cut-run-piece-requires g c =
+pub cut_run-piece-requires : goal.cut_run-piece-requires
+cut_run-piece-requires g c =
     let runs = c.args.runs.now in
     let i = c.loop-run.run_index in
     let offset = c.args.offset in
@@ -22,8 +22,8 @@ cut-run-piece-requires g c =
     let ok = All-get_or (Spans offset lo hi c.args.base) runs i no_run here c.requires.runs in
     record { start = ok.«from»; «end» = ok.to }
 
-pub overflow-sub-n : goal.overflow-sub-n
-overflow-sub-n g c =
+pub overflow_sub-n : goal.overflow_sub-n
+overflow_sub-n g c =
     let runs = c.args.runs.now in
     let i = c.loop-run.run_index in
     let offset = c.args.offset in
@@ -32,8 +32,8 @@ overflow-sub-n g c =
     let r = get_or runs i no_run in
     let here = c.loop-run-test.true in
     let ok = All-get_or (Spans offset lo hi c.args.base) runs i no_run here c.requires.runs in
-    let a : c.cut-run-piece.result.start ≡ span_start offset lo hi r = ap (λ x. x.start) c.cut-run-piece.ensures in
-    let b : c.cut-run-piece.result.«end» ≡ span_end offset hi r = ap (λ x. x.«end») c.cut-run-piece.ensures in
+    let a : c.cut_run-piece.result.start ≡ span_start offset lo hi r = ap (λ x. x.start) c.cut_run-piece.ensures in
+    let b : c.cut_run-piece.result.«end» ≡ span_end offset hi r = ap (λ x. x.«end») c.cut_run-piece.ensures in
     let ordered = ok.ordered in
     let above = ok.above in
     let count = span_take_count offset lo hi runs i here in
@@ -42,11 +42,11 @@ overflow-sub-n g c =
     let bound = c.requires.bound in
     let inv = c.loop-run.invariant.0 in
     let keep = c.loop-run.auto.dst in
-    let fits : c.loop-run.at + (c.cut-run-piece.result.«end» - c.cut-run-piece.result.start) ≤ length c.args.dst.now = omega arith in
+    let fits : c.loop-run.at + (c.cut_run-piece.result.«end» - c.cut_run-piece.result.start) ≤ length c.args.dst.now = omega arith in
     search rules
 
-pub overflow-sub-piece : goal.overflow-sub-piece
-overflow-sub-piece g c =
+pub overflow_sub-piece : goal.overflow_sub-piece
+overflow_sub-piece g c =
     let runs = c.args.runs.now in
     let i = c.loop-run.run_index in
     let offset = c.args.offset in
@@ -55,8 +55,8 @@ overflow-sub-piece g c =
     let r = get_or runs i no_run in
     let here = c.loop-run-test.true in
     let ok = All-get_or (Spans offset lo hi c.args.base) runs i no_run here c.requires.runs in
-    let a : c.cut-run-piece.result.start ≡ span_start offset lo hi r = ap (λ x. x.start) c.cut-run-piece.ensures in
-    let b : c.cut-run-piece.result.«end» ≡ span_end offset hi r = ap (λ x. x.«end») c.cut-run-piece.ensures in
+    let a : c.cut_run-piece.result.start ≡ span_start offset lo hi r = ap (λ x. x.start) c.cut_run-piece.ensures in
+    let b : c.cut_run-piece.result.«end» ≡ span_end offset hi r = ap (λ x. x.«end») c.cut_run-piece.ensures in
     let ordered = ok.ordered in
     let above = ok.above in
     let count = span_take_count offset lo hi runs i here in
@@ -65,11 +65,11 @@ overflow-sub-piece g c =
     let bound = c.requires.bound in
     let inv = c.loop-run.invariant.0 in
     let keep = c.loop-run.auto.dst in
-    let fits : c.loop-run.at + (c.cut-run-piece.result.«end» - c.cut-run-piece.result.start) ≤ length c.args.dst.now = omega arith in
+    let fits : c.loop-run.at + (c.cut_run-piece.result.«end» - c.cut_run-piece.result.start) ≤ length c.args.dst.now = omega arith in
     search rules
 
-pub offset-bounds-dst-at : goal.offset-bounds-dst-at
-offset-bounds-dst-at g c =
+pub offset_bounds-dst-at : goal.offset_bounds-dst-at
+offset_bounds-dst-at g c =
     let runs = c.args.runs.now in
     let i = c.loop-run.run_index in
     let offset = c.args.offset in
@@ -78,8 +78,8 @@ offset-bounds-dst-at g c =
     let r = get_or runs i no_run in
     let here = c.loop-run-test.true in
     let ok = All-get_or (Spans offset lo hi c.args.base) runs i no_run here c.requires.runs in
-    let a : c.cut-run-piece.result.start ≡ span_start offset lo hi r = ap (λ x. x.start) c.cut-run-piece.ensures in
-    let b : c.cut-run-piece.result.«end» ≡ span_end offset hi r = ap (λ x. x.«end») c.cut-run-piece.ensures in
+    let a : c.cut_run-piece.result.start ≡ span_start offset lo hi r = ap (λ x. x.start) c.cut_run-piece.ensures in
+    let b : c.cut_run-piece.result.«end» ≡ span_end offset hi r = ap (λ x. x.«end») c.cut_run-piece.ensures in
     let ordered = ok.ordered in
     let above = ok.above in
     let count = span_take_count offset lo hi runs i here in
@@ -88,11 +88,11 @@ offset-bounds-dst-at g c =
     let bound = c.requires.bound in
     let inv = c.loop-run.invariant.0 in
     let keep = c.loop-run.auto.dst in
-    let fits : c.loop-run.at + (c.cut-run-piece.result.«end» - c.cut-run-piece.result.start) ≤ length c.args.dst.now = omega arith in
+    let fits : c.loop-run.at + (c.cut_run-piece.result.«end» - c.cut_run-piece.result.start) ≤ length c.args.dst.now = omega arith in
     search rules
 
-pub slice-bounds-copy-part-count : goal.slice-bounds-copy-part-count
-slice-bounds-copy-part-count g c =
+pub slice_bounds-copy_part-count : goal.slice_bounds-copy_part-count
+slice_bounds-copy_part-count g c =
     let runs = c.args.runs.now in
     let i = c.loop-run.run_index in
     let offset = c.args.offset in
@@ -101,8 +101,8 @@ slice-bounds-copy-part-count g c =
     let r = get_or runs i no_run in
     let here = c.loop-run-test.true in
     let ok = All-get_or (Spans offset lo hi c.args.base) runs i no_run here c.requires.runs in
-    let a : c.cut-run-piece.result.start ≡ span_start offset lo hi r = ap (λ x. x.start) c.cut-run-piece.ensures in
-    let b : c.cut-run-piece.result.«end» ≡ span_end offset hi r = ap (λ x. x.«end») c.cut-run-piece.ensures in
+    let a : c.cut_run-piece.result.start ≡ span_start offset lo hi r = ap (λ x. x.start) c.cut_run-piece.ensures in
+    let b : c.cut_run-piece.result.«end» ≡ span_end offset hi r = ap (λ x. x.«end») c.cut_run-piece.ensures in
     let ordered = ok.ordered in
     let above = ok.above in
     let count = span_take_count offset lo hi runs i here in
@@ -111,11 +111,11 @@ slice-bounds-copy-part-count g c =
     let bound = c.requires.bound in
     let inv = c.loop-run.invariant.0 in
     let keep = c.loop-run.auto.dst in
-    let fits : c.loop-run.at + (c.cut-run-piece.result.«end» - c.cut-run-piece.result.start) ≤ length c.args.dst.now = omega arith in
+    let fits : c.loop-run.at + (c.cut_run-piece.result.«end» - c.cut_run-piece.result.start) ≤ length c.args.dst.now = omega arith in
     search rules
 
-pub slice-bounds-copy-part-start : goal.slice-bounds-copy-part-start
-slice-bounds-copy-part-start g c =
+pub slice_bounds-copy_part-start : goal.slice_bounds-copy_part-start
+slice_bounds-copy_part-start g c =
     let runs = c.args.runs.now in
     let i = c.loop-run.run_index in
     let offset = c.args.offset in
@@ -124,8 +124,8 @@ slice-bounds-copy-part-start g c =
     let r = get_or runs i no_run in
     let here = c.loop-run-test.true in
     let ok = All-get_or (Spans offset lo hi c.args.base) runs i no_run here c.requires.runs in
-    let a : c.cut-run-piece.result.start ≡ span_start offset lo hi r = ap (λ x. x.start) c.cut-run-piece.ensures in
-    let b : c.cut-run-piece.result.«end» ≡ span_end offset hi r = ap (λ x. x.«end») c.cut-run-piece.ensures in
+    let a : c.cut_run-piece.result.start ≡ span_start offset lo hi r = ap (λ x. x.start) c.cut_run-piece.ensures in
+    let b : c.cut_run-piece.result.«end» ≡ span_end offset hi r = ap (λ x. x.«end») c.cut_run-piece.ensures in
     let ordered = ok.ordered in
     let above = ok.above in
     let count = span_take_count offset lo hi runs i here in
@@ -134,11 +134,11 @@ slice-bounds-copy-part-start g c =
     let bound = c.requires.bound in
     let inv = c.loop-run.invariant.0 in
     let keep = c.loop-run.auto.dst in
-    let fits : c.loop-run.at + (c.cut-run-piece.result.«end» - c.cut-run-piece.result.start) ≤ length c.args.dst.now = omega arith in
+    let fits : c.loop-run.at + (c.cut_run-piece.result.«end» - c.cut_run-piece.result.start) ≤ length c.args.dst.now = omega arith in
     search rules
 
-pub overflow-add-at : goal.overflow-add-at
-overflow-add-at g c =
+pub overflow_add-at : goal.overflow_add-at
+overflow_add-at g c =
     let runs = c.args.runs.now in
     let i = c.loop-run.run_index in
     let offset = c.args.offset in
@@ -147,8 +147,8 @@ overflow-add-at g c =
     let r = get_or runs i no_run in
     let here = c.loop-run-test.true in
     let ok = All-get_or (Spans offset lo hi c.args.base) runs i no_run here c.requires.runs in
-    let a : c.cut-run-piece.result.start ≡ span_start offset lo hi r = ap (λ x. x.start) c.cut-run-piece.ensures in
-    let b : c.cut-run-piece.result.«end» ≡ span_end offset hi r = ap (λ x. x.«end») c.cut-run-piece.ensures in
+    let a : c.cut_run-piece.result.start ≡ span_start offset lo hi r = ap (λ x. x.start) c.cut_run-piece.ensures in
+    let b : c.cut_run-piece.result.«end» ≡ span_end offset hi r = ap (λ x. x.«end») c.cut_run-piece.ensures in
     let ordered = ok.ordered in
     let above = ok.above in
     let count = span_take_count offset lo hi runs i here in
@@ -157,11 +157,11 @@ overflow-add-at g c =
     let bound = c.requires.bound in
     let inv = c.loop-run.invariant.0 in
     let keep = c.loop-run.auto.dst in
-    let fits : c.loop-run.at + (c.cut-run-piece.result.«end» - c.cut-run-piece.result.start) ≤ length c.args.dst.now = omega arith in
+    let fits : c.loop-run.at + (c.cut_run-piece.result.«end» - c.cut_run-piece.result.start) ≤ length c.args.dst.now = omega arith in
     search rules
 
-pub copy-part-requires : goal.copy-part-requires
-copy-part-requires g c =
+pub copy_part-requires : goal.copy_part-requires
+copy_part-requires g c =
     let runs = c.args.runs.now in
     let i = c.loop-run.run_index in
     let offset = c.args.offset in
@@ -170,8 +170,8 @@ copy-part-requires g c =
     let r = get_or runs i no_run in
     let here = c.loop-run-test.true in
     let ok = All-get_or (Spans offset lo hi c.args.base) runs i no_run here c.requires.runs in
-    let a : c.cut-run-piece.result.start ≡ span_start offset lo hi r = ap (λ x. x.start) c.cut-run-piece.ensures in
-    let b : c.cut-run-piece.result.«end» ≡ span_end offset hi r = ap (λ x. x.«end») c.cut-run-piece.ensures in
+    let a : c.cut_run-piece.result.start ≡ span_start offset lo hi r = ap (λ x. x.start) c.cut_run-piece.ensures in
+    let b : c.cut_run-piece.result.«end» ≡ span_end offset hi r = ap (λ x. x.«end») c.cut_run-piece.ensures in
     let ordered = ok.ordered in
     let above = ok.above in
     let count = span_take_count offset lo hi runs i here in
@@ -180,7 +180,7 @@ copy-part-requires g c =
     let bound = c.requires.bound in
     let inv = c.loop-run.invariant.0 in
     let keep = c.loop-run.auto.dst in
-    let fits : c.loop-run.at + (c.cut-run-piece.result.«end» - c.cut-run-piece.result.start) ≤ length c.args.dst.now = omega arith in
+    let fits : c.loop-run.at + (c.cut_run-piece.result.«end» - c.cut_run-piece.result.start) ≤ length c.args.dst.now = omega arith in
     let rest = ap length (take_rest c.loop-run.dst c.loop-run.at) ∙ length-drop c.loop-run.at c.loop-run.dst in
     let wide = c.requires.inside in
     record { room = omega arith; inside = omega arith }
@@ -195,8 +195,8 @@ loop-run-preserved g c =
     let r = get_or runs i no_run in
     let here = c.loop-run-test.true in
     let ok = All-get_or (Spans offset lo hi c.args.base) runs i no_run here c.requires.runs in
-    let a : c.cut-run-piece.result.start ≡ span_start offset lo hi r = ap (λ x. x.start) c.cut-run-piece.ensures in
-    let b : c.cut-run-piece.result.«end» ≡ span_end offset hi r = ap (λ x. x.«end») c.cut-run-piece.ensures in
+    let a : c.cut_run-piece.result.start ≡ span_start offset lo hi r = ap (λ x. x.start) c.cut_run-piece.ensures in
+    let b : c.cut_run-piece.result.«end» ≡ span_end offset hi r = ap (λ x. x.«end») c.cut_run-piece.ensures in
     let ordered = ok.ordered in
     let above = ok.above in
     let count = span_take_count offset lo hi runs i here in
@@ -205,7 +205,7 @@ loop-run-preserved g c =
     let bound = c.requires.bound in
     let inv = c.loop-run.invariant.0 in
     let keep = c.loop-run.auto.dst in
-    let fits : c.loop-run.at + (c.cut-run-piece.result.«end» - c.cut-run-piece.result.start) ≤ length c.args.dst.now = omega arith in
+    let fits : c.loop-run.at + (c.cut_run-piece.result.«end» - c.cut_run-piece.result.start) ≤ length c.args.dst.now = omega arith in
     let base = c.args.base in
     let src = c.args.src.now in
     let n : ℕ = span_end offset hi r - span_start offset lo hi r in
@@ -214,13 +214,13 @@ loop-run-preserved g c =
     let ws = gather src (map (shifted 0 base) (spanned offset lo hi r)) in
     let at = c.loop-run.at in
     let wide = c.requires.inside in
-    let size : c.cut-run-piece.result.«end» - c.cut-run-piece.result.start ≡ n = omega arith in
-    let piece : take (c.cut-run-piece.result.«end» - c.cut-run-piece.result.start) (drop (c.cut-run-piece.result.start - base) src) ≡ ws = ap₂ (λ m y. take m (drop (y - base) src)) size a ∙ sym (gather_counting src n (span_start offset lo hi r - base)) ∙ ap (gather src) (counting_less base (span_start offset lo hi r) n above) in
+    let size : c.cut_run-piece.result.«end» - c.cut_run-piece.result.start ≡ n = omega arith in
+    let piece : take (c.cut_run-piece.result.«end» - c.cut_run-piece.result.start) (drop (c.cut_run-piece.result.start - base) src) ≡ ws = ap₂ (λ m y. take m (drop (y - base) src)) size a ∙ sym (gather_counting src n (span_start offset lo hi r - base)) ∙ ap (gather src) (counting_less base (span_start offset lo hi r) n above) in
     let inside = span_inside offset lo hi base (length src) (take i runs) (All-take (Spans offset lo hi base) i runs c.requires.runs) wide in
     let vs-long : length vs ≡ at = length_gather src (map (shifted 0 base) (in_span offset lo hi (take i runs))) inside ∙ length-map (in_span offset lo hi (take i runs)) (shifted 0 base) ∙ sym inv in
     let all : gather src (map (shifted 0 base) (in_span offset lo hi (take (i + 1) runs))) ≡ vs ++ ws = ap (λ xs. gather src (map (shifted 0 base) xs)) (span_take_more offset lo hi runs i here) ∙ ap (gather src) (map-append (shifted 0 base) (in_span offset lo hi (take i runs)) (spanned offset lo hi r)) ∙ gather_append src (map (shifted 0 base) (in_span offset lo hi (take i runs))) (map (shifted 0 base) (spanned offset lo hi r)) in (
       omega arith,
-      put_rest_more c.args.dst.now vs ws c.loop-run.dst c.copy-part.new.dst at vs-long c.loop-run.invariant.1 (c.copy-part.ensures ∙ ap (splice (take (length c.loop-run.dst - at) (drop at c.loop-run.dst)) 0) piece) ∙ ap (splice c.args.dst.now 0) (sym all),
+      put_rest_more c.args.dst.now vs ws c.loop-run.dst c.copy_part.new.dst at vs-long c.loop-run.invariant.1 (c.copy_part.ensures ∙ ap (splice (take (length c.loop-run.dst - at) (drop at c.loop-run.dst)) 0) piece) ∙ ap (splice c.args.dst.now 0) (sym all),
     )
 
 pub returns : goal.returns

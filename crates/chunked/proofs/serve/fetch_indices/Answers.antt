@@ -4,6 +4,6 @@ use Rattle.chunked.proofs.serve.fetch_indices.Goals as goal
 pub returns : goal.returns
 returns g c =
     let source = c.args.source.now in
-    let after = c.decode-indices.new.self in
-    let h = fetched_part (g.D.ChunkDecoder.readings source) (g.D.ChunkDecoder.readings after) (g.D.ChunkDecoder.allowance source) (g.D.ChunkDecoder.allowance after) c.args.output.now c.decode-indices.new.output c.args.at c.args.chunk c.args.indices.now c.requires.clear c.decode-indices.ensures.after in
+    let after = c.decode_indices.new.self in
+    let h = fetched_part (g.D.ChunkDecoder.readings source) (g.D.ChunkDecoder.readings after) (g.D.ChunkDecoder.allowance source) (g.D.ChunkDecoder.allowance after) c.args.output.now c.decode_indices.new.output c.args.at c.args.chunk c.args.indices.now c.requires.clear c.decode_indices.ensures.after in
     record { kept = h.kept; paid = h.paid; wrote = h.wrote }

@@ -7,8 +7,8 @@ use Rattle.selection.proofs.Fields.{ones_bits}
 use Rattle.chunked.proofs.Windows.{loaded_covers, loaded_picks}
 use Rattle.chunked.proofs.serve.load_words.Goals as goal
 
-pub overflow-add-ones : goal.overflow-add-ones
-overflow-add-ones c =
+pub overflow_add-ones : goal.overflow_add-ones
+overflow_add-ones c =
     let w = c.args.window in
     let from = c.args.«from» in
     let n = c.args.n in

@@ -8,14 +8,14 @@ use Rattle.chunked.specs.Spans.{EndsBy, in_span}
 use Rattle.chunked.proofs.Spanning.{count_few, count_more, ends_ahead, runs_at, span_stops}
 use Rattle.chunked.proofs.serve.runs_below.Goals as goal
 
-pub cut-run-piece-requires : goal.cut-run-piece-requires
-cut-run-piece-requires c =
+pub cut_run-piece-requires : goal.cut_run-piece-requires
+cut_run-piece-requires c =
     let h = runs_at 0 16777216 c.args.runs.now c.loop-next.next c.requires.rising c.loop-next-test.true in
     let small = c.requires.small in
     record { start = omega arith; «end» = omega arith }
 
-pub overflow-sub-count : goal.overflow-sub-count
-overflow-sub-count c =
+pub overflow_sub-count : goal.overflow_sub-count
+overflow_sub-count c =
     let runs = c.args.runs.now in
     let i = c.loop-next.next in
     let offset = c.args.offset in
@@ -24,15 +24,15 @@ overflow-sub-count c =
     let from = c.args.«from» in
     let order : from ≤ i = c.loop-next.auto.next in
     let here : i < length runs = c.loop-next-test.true in
-    let a = ap (λ x. x.start) c.cut-run-piece.ensures in
-    let b = ap (λ x. x.«end») c.cut-run-piece.ensures in
+    let a = ap (λ x. x.start) c.cut_run-piece.ensures in
+    let b = ap (λ x. x.«end») c.cut_run-piece.ensures in
     let ahead = ends_ahead offset lo hi runs from i c.requires.rising order here c.requires.ahead in
     let at_i = runs_at 0 16777216 runs i c.requires.rising here in
     let l = c.requires.order in
     omega arith
 
-pub overflow-add-count : goal.overflow-add-count
-overflow-add-count c =
+pub overflow_add-count : goal.overflow_add-count
+overflow_add-count c =
     let runs = c.args.runs.now in
     let i = c.loop-next.next in
     let offset = c.args.offset in
@@ -41,16 +41,16 @@ overflow-add-count c =
     let from = c.args.«from» in
     let order : from ≤ i = c.loop-next.auto.next in
     let here : i < length runs = c.loop-next-test.true in
-    let a = ap (λ x. x.start) c.cut-run-piece.ensures in
-    let b = ap (λ x. x.«end») c.cut-run-piece.ensures in
+    let a = ap (λ x. x.start) c.cut_run-piece.ensures in
+    let b = ap (λ x. x.«end») c.cut_run-piece.ensures in
     let more = count_more offset lo hi runs from i c.requires.rising order here in
     let few = count_few offset lo hi runs from i c.requires.rising order here in
     let inv = c.loop-next.invariant.0 in
-    let fits : c.loop-next.count + (c.cut-run-piece.result.«end» - c.cut-run-piece.result.start) < 2 ^ 64 = omega arith in
+    let fits : c.loop-next.count + (c.cut_run-piece.result.«end» - c.cut_run-piece.result.start) < 2 ^ 64 = omega arith in
     search rules
 
-pub overflow-add-run : goal.overflow-add-run
-overflow-add-run c =
+pub overflow_add-run : goal.overflow_add-run
+overflow_add-run c =
     let h = runs_at 0 16777216 c.args.runs.now c.loop-next.next c.requires.rising c.loop-next-test.true in
     let small = c.requires.small in
     let fits : (get_or c.args.runs.now c.loop-next.next no_run).«end» + c.args.offset < 2 ^ 64 = omega arith in
@@ -66,8 +66,8 @@ returns-then-run-offset c =
     let from = c.args.«from» in
     let order : from ≤ i = c.loop-next.auto.next in
     let here : i < length runs = c.loop-next-test.true in
-    let a = ap (λ x. x.start) c.cut-run-piece.ensures in
-    let b = ap (λ x. x.«end») c.cut-run-piece.ensures in
+    let a = ap (λ x. x.start) c.cut_run-piece.ensures in
+    let b = ap (λ x. x.«end») c.cut_run-piece.ensures in
     let more = count_more offset lo hi runs from i c.requires.rising order here in
     let stops = ap length (span_stops offset lo hi runs from i c.requires.rising order here c.if-run-offset.true) in
     let inv = c.loop-next.invariant.0 in
@@ -83,8 +83,8 @@ loop-next-preserved c =
     let from = c.args.«from» in
     let order : from ≤ i = c.loop-next.auto.next in
     let here : i < length runs = c.loop-next-test.true in
-    let a = ap (λ x. x.start) c.cut-run-piece.ensures in
-    let b = ap (λ x. x.«end») c.cut-run-piece.ensures in
+    let a = ap (λ x. x.start) c.cut_run-piece.ensures in
+    let b = ap (λ x. x.«end») c.cut_run-piece.ensures in
     let more = count_more offset lo hi runs from i c.requires.rising order here in
     let inv = c.loop-next.invariant.0 in
     (omega arith, rw (between_more runs from i no_run order here) (All-append (EndsBy offset hi) (between from i runs) (get_or runs i no_run ∷ []) c.loop-next.invariant.1 (c.if-run-offset.false, tt)))

@@ -20,8 +20,8 @@ loop-chunk-init g c =
     let s = storing (g.D.ChunkDecoder.readings c.args.source.now) (g.D.ChunkDecoder.allowance c.args.source.now) c.args.output.now c.args.scratch.now in
     (record { within = omega arith; state = serving_none (limit_at_width g.D.Item.Element.bytes) s c.args.at; parted = λ k h. absurd (omega arith) }, sym (ap length (kept_start (window_bit w) c.args.offset w.len)))
 
-pub overflow-add-at : goal.overflow-add-at
-overflow-add-at g c =
+pub overflow_add-at : goal.overflow_add-at
+overflow_add-at g c =
     let w = c.args.window in
     let q = window_bit w in
     let len = w.len in
@@ -42,17 +42,17 @@ overflow-add-at g c =
     let fits : c.args.at + done < 2 ^ 64 = omega arith in
     search rules
 
-pub overflow-add-done : goal.overflow-add-done
-overflow-add-done g c =
+pub overflow_add-done : goal.overflow_add-done
+overflow_add-done g c =
     let w = c.args.window in
     let q = window_bit w in
     let len = w.len in
     let offset = c.args.offset in
     let chunk = c.loop-chunk.chunk in
-    let a : c.chunk-boundary-from.result ≡ boundary offset len chunk = c.chunk-boundary-from.ensures in
-    let b : c.chunk-boundary-to.result ≡ boundary offset len (chunk + 1) = c.chunk-boundary-to.ensures in
-    let n = c.serve-chunk-bitmap-n.result in
-    let ones : n ≡ length (kept_between_places q (boundary offset len chunk) (boundary offset len (chunk + 1))) = c.serve-chunk-bitmap-n.ensures.count ∙ ap₂ (λ x y. length (kept_between_places q x y)) a b in
+    let a : c.chunk_boundary-from.result ≡ boundary offset len chunk = c.chunk_boundary-from.ensures in
+    let b : c.chunk_boundary-to.result ≡ boundary offset len (chunk + 1) = c.chunk_boundary-to.ensures in
+    let n = c.serve_chunk_bitmap-n.result in
+    let ones : n ≡ length (kept_between_places q (boundary offset len chunk) (boundary offset len (chunk + 1))) = c.serve_chunk_bitmap-n.ensures.count ∙ ap₂ (λ x y. length (kept_between_places q x y)) a b in
     let next = count_next q offset len chunk c.requires.small in
     let few = kept_few q 0 (boundary offset len (chunk + 1)) in
     let inv = c.loop-chunk.invariant.1 in
@@ -60,15 +60,15 @@ overflow-add-done g c =
     let fits : c.loop-chunk.done + n < 2 ^ 64 = omega arith in
     search rules
 
-pub serve-chunk-bitmap-n-requires : goal.serve-chunk-bitmap-n-requires
-serve-chunk-bitmap-n-requires g c =
+pub serve_chunk_bitmap-n-requires : goal.serve_chunk_bitmap-n-requires
+serve_chunk_bitmap-n-requires g c =
     let w = c.args.window in
     let q = window_bit w in
     let len = w.len in
     let offset = c.args.offset in
     let chunk = c.loop-chunk.chunk in
-    let a : c.chunk-boundary-from.result ≡ boundary offset len chunk = c.chunk-boundary-from.ensures in
-    let b : c.chunk-boundary-to.result ≡ boundary offset len (chunk + 1) = c.chunk-boundary-to.ensures in
+    let a : c.chunk_boundary-from.result ≡ boundary offset len chunk = c.chunk_boundary-from.ensures in
+    let b : c.chunk_boundary-to.result ≡ boundary offset len (chunk + 1) = c.chunk_boundary-to.ensures in
     let done = c.loop-chunk.done in
     let ps = at offset (kept_between_places q 0 len) in
     let L = limit_at_width g.D.Item.Element.bytes in
@@ -79,14 +79,14 @@ serve-chunk-bitmap-n-requires g c =
     let whole = g.D.ChunkDecoder.whole c.args.source.now in
     let small = c.requires.small in
     let taken = c.loop-chunk-test.true in
-    let rounds = c.div-ceil-chunk-end.ensures in
+    let rounds = c.div_ceil-chunk-end.ensures in
     let n : ℕ = length (kept_between_places q (boundary offset len chunk) (boundary offset len (chunk + 1))) in
     record {
       servable = λ some.
           let some' : 0 < n = subst (λ m. 0 < m) (ap₂ (λ x y. length (kept_between_places q x y)) a b) some in
           let k = bitmap_cut q offset len chunk c.requires.small done n c.loop-chunk.invariant.1 refl some' in
           let part = bitmap_part q offset len chunk c.requires.small done n c.loop-chunk.invariant.1 refl some' in
-          let both : between done (done + n) ps ≡ at offset (kept_between_places q c.chunk-boundary-from.result c.chunk-boundary-to.result) = part ∙ ap₂ (λ x y. at offset (kept_between_places q x y)) (sym a) (sym b) in
+          let both : between done (done + n) ps ≡ at offset (kept_between_places q c.chunk_boundary-from.result c.chunk_boundary-to.result) = part ∙ ap₂ (λ x y. at offset (kept_between_places q x y)) (sym a) (sym b) in
           subst (Servable (offered L t (c.args.at + done)) chunk) both (cut_servable L s t c.args.at ps done (done + n) chunk _ _ c.loop-chunk.invariant.0 k up ok whole c.requires.room);
       low = omega arith;
       high = omega arith;
@@ -103,8 +103,8 @@ loop-chunk-preserved g c =
     let len = w.len in
     let offset = c.args.offset in
     let chunk = c.loop-chunk.chunk in
-    let a : c.chunk-boundary-from.result ≡ boundary offset len chunk = c.chunk-boundary-from.ensures in
-    let b : c.chunk-boundary-to.result ≡ boundary offset len (chunk + 1) = c.chunk-boundary-to.ensures in
+    let a : c.chunk_boundary-from.result ≡ boundary offset len chunk = c.chunk_boundary-from.ensures in
+    let b : c.chunk_boundary-to.result ≡ boundary offset len (chunk + 1) = c.chunk_boundary-to.ensures in
     let done = c.loop-chunk.done in
     let ps = at offset (kept_between_places q 0 len) in
     let L = limit_at_width g.D.Item.Element.bytes in
@@ -113,21 +113,21 @@ loop-chunk-preserved g c =
     let up : Rising (offset + 0) (offset + len) ps = rising_shifted offset 0 len (kept_between_places q 0 len) (kept_rises q len) in
     let ok = granted (offered L s c.args.at) ps (ap (λ xs. declined (offered L s c.args.at) (at offset xs)) (kept_whole w) ∙ c.requires.granted) in
     let whole = g.D.ChunkDecoder.whole c.args.source.now in
-    let n = c.serve-chunk-bitmap-n.result in
-    let ones : n ≡ length (kept_between_places q (boundary offset len chunk) (boundary offset len (chunk + 1))) = c.serve-chunk-bitmap-n.ensures.count ∙ ap₂ (λ x y. length (kept_between_places q x y)) a b in
+    let n = c.serve_chunk_bitmap-n.result in
+    let ones : n ≡ length (kept_between_places q (boundary offset len chunk) (boundary offset len (chunk + 1))) = c.serve_chunk_bitmap-n.ensures.count ∙ ap₂ (λ x y. length (kept_between_places q x y)) a b in
     let next = count_next q offset len chunk c.requires.small in
     let inv = c.loop-chunk.invariant.1 in
-    let src = c.serve-chunk-bitmap-n.new.source in
-    let u = storing (g.D.ChunkDecoder.readings src) (g.D.ChunkDecoder.allowance src) c.serve-chunk-bitmap-n.new.output c.serve-chunk-bitmap-n.new.scratch in
-    let ys = kept_between_places q c.chunk-boundary-from.result c.chunk-boundary-to.result in
+    let src = c.serve_chunk_bitmap-n.new.source in
+    let u = storing (g.D.ChunkDecoder.readings src) (g.D.ChunkDecoder.allowance src) c.serve_chunk_bitmap-n.new.output c.serve_chunk_bitmap-n.new.scratch in
+    let ys = kept_between_places q c.chunk_boundary-from.result c.chunk_boundary-to.result in
     let some_more : 0 < n → Serves L s u c.args.at ps (done + n) =
     λ some.
     let k = bitmap_cut q offset len chunk c.requires.small done n inv ones some in
     let part = bitmap_part q offset len chunk c.requires.small done n inv ones some in
     let both : between done (done + n) ps ≡ at offset ys = part ∙ ap₂ (λ x y. at offset (kept_between_places q x y)) (sym a) (sym b) in
-    serves_more L s t c.args.at ps done (done + n) chunk _ _ c.loop-chunk.invariant.0 k up ok whole c.requires.room u (c.serve-chunk-bitmap-n.ensures.served ∙ ap (serving L t (c.args.at + done)) (sym both)) in
+    serves_more L s t c.args.at ps done (done + n) chunk _ _ c.loop-chunk.invariant.0 k up ok whole c.requires.room u (c.serve_chunk_bitmap-n.ensures.served ∙ ap (serving L t (c.args.at + done)) (sym both)) in
     let none_more : n ≤ 0 → Serves L s u c.args.at ps (done + n) =
-    λ none. serves_still L s t u c.args.at ps (at offset ys) done n c.loop-chunk.invariant.0 (length-map ys (moved offset) ∙ sym c.serve-chunk-bitmap-n.ensures.count) (omega arith) c.serve-chunk-bitmap-n.ensures.served in
+    λ none. serves_still L s t u c.args.at ps (at offset ys) done n c.loop-chunk.invariant.0 (length-map ys (moved offset) ∙ sym c.serve_chunk_bitmap-n.ensures.count) (omega arith) c.serve_chunk_bitmap-n.ensures.served in
     (⊎_elim some_more none_more (cases_lt 0 n), omega arith)
 
 pub returns : goal.returns
@@ -138,7 +138,7 @@ returns g c =
     let offset = c.args.offset in
     let ps = at offset (kept_between_places q 0 len) in
     let left = c.loop-chunk-test.false in
-    let up = c.div-ceil-chunk-end.ensures in
+    let up = c.div_ceil-chunk-end.ensures in
     let all : boundary offset len c.loop-chunk.chunk ≡ len = let small = c.requires.small in omega arith in
     let size : c.loop-chunk.done ≡ length ps = c.loop-chunk.invariant.1 ∙ ap (λ b. length (kept_between_places q 0 b)) all ∙ sym (length-map (kept_between_places q 0 len) (moved offset)) in
     let s = storing (g.D.ChunkDecoder.readings c.args.source.now) (g.D.ChunkDecoder.allowance c.args.source.now) c.args.output.now c.args.scratch.now in

@@ -11,8 +11,8 @@ use Rattle.chunked.proofs.Windows.{kept_from}
 use Rattle.chunked.proofs.Serving.{serving_empty}
 use Rattle.chunked.proofs.serve.serve_chunk_bitmap.Goals as goal
 
-pub overflow-add-up : goal.overflow-add-up
-overflow-add-up g c =
+pub overflow_add-up : goal.overflow_add-up
+overflow_add-up g c =
     let order = c.requires.order in
     let inside = c.requires.inside in
     let short = c.requires.short in
@@ -20,8 +20,8 @@ overflow-add-up g c =
     let fits : c.args.«from» + c.args.offset < 2 ^ 64 = omega arith in
     search rules
 
-pub overflow-mul-up : goal.overflow-mul-up
-overflow-mul-up g c =
+pub overflow_mul-up : goal.overflow_mul-up
+overflow_mul-up g c =
     let low = c.requires.low in
     let order = c.requires.order in
     let inside = c.requires.inside in
@@ -30,19 +30,19 @@ overflow-mul-up g c =
     let fits : c.args.chunk * 1024 < 2 ^ 64 = omega arith in
     search rules
 
-pub serve-chunk-words-requires : goal.serve-chunk-words-requires
-serve-chunk-words-requires g c =
+pub serve_chunk_words-requires : goal.serve_chunk_words-requires
+serve_chunk_words-requires g c =
     let w = c.args.window in
     let q = window_bit w in
     let offset = c.args.offset in
     let from = c.args.«from» in
     let to = c.args.to in
     let chunk = c.args.chunk in
-    let ws = c.load-words-n.new.words in
+    let ws = c.load_words-n.new.words in
     let len : ℕ = to - from in
     let low = c.requires.low in
     let base : chunk * 1024 + (from + offset - chunk * 1024) ≡ offset + from = omega arith in
-    let same : map (moved (chunk * 1024 + (from + offset - chunk * 1024))) (mask_positions ws len) ≡ at offset (kept_between_places q from to) = ap (map (moved (chunk * 1024 + (from + offset - chunk * 1024)))) c.load-words-n.ensures.picks ∙ kept_from q offset from to (chunk * 1024 + (from + offset - chunk * 1024)) base in
+    let same : map (moved (chunk * 1024 + (from + offset - chunk * 1024))) (mask_positions ws len) ≡ at offset (kept_between_places q from to) = ap (map (moved (chunk * 1024 + (from + offset - chunk * 1024)))) c.load_words-n.ensures.picks ∙ kept_from q offset from to (chunk * 1024 + (from + offset - chunk * 1024)) base in
     let L = limit_at_width g.D.Item.Element.bytes in
     let s = storing (g.D.ChunkDecoder.readings c.args.source.now) (g.D.ChunkDecoder.allowance c.args.source.now) c.args.output.now c.args.scratch.now in
     let high = c.requires.high in
@@ -50,11 +50,11 @@ serve-chunk-words-requires g c =
     let sizes = ap length same in
     let a = length-map (mask_positions ws len) (moved (chunk * 1024 + (from + offset - chunk * 1024))) in
     let b = length-map (kept_between_places q from to) (moved offset) in
-    let count = c.load-words-n.ensures.count in
+    let count = c.load_words-n.ensures.count in
     let some = c.if-n-gt0.true in
     record {
       servable = subst (Servable (offered L s c.args.at) chunk) (sym same) (c.requires.servable (omega arith));
-      mask = c.load-words-n.ensures.covers;
+      mask = c.load_words-n.ensures.covers;
       inside = omega arith;
       count = count;
     }
@@ -67,20 +67,20 @@ returns-then-n-gt0 g c =
     let from = c.args.«from» in
     let to = c.args.to in
     let chunk = c.args.chunk in
-    let ws = c.load-words-n.new.words in
+    let ws = c.load_words-n.new.words in
     let len : ℕ = to - from in
     let low = c.requires.low in
     let base : chunk * 1024 + (from + offset - chunk * 1024) ≡ offset + from = omega arith in
-    let same : map (moved (chunk * 1024 + (from + offset - chunk * 1024))) (mask_positions ws len) ≡ at offset (kept_between_places q from to) = ap (map (moved (chunk * 1024 + (from + offset - chunk * 1024)))) c.load-words-n.ensures.picks ∙ kept_from q offset from to (chunk * 1024 + (from + offset - chunk * 1024)) base in
+    let same : map (moved (chunk * 1024 + (from + offset - chunk * 1024))) (mask_positions ws len) ≡ at offset (kept_between_places q from to) = ap (map (moved (chunk * 1024 + (from + offset - chunk * 1024)))) c.load_words-n.ensures.picks ∙ kept_from q offset from to (chunk * 1024 + (from + offset - chunk * 1024)) base in
     let L = limit_at_width g.D.Item.Element.bytes in
     let s = storing (g.D.ChunkDecoder.readings c.args.source.now) (g.D.ChunkDecoder.allowance c.args.source.now) c.args.output.now c.args.scratch.now in
     let sizes = ap length same in
     let a = length-map (mask_positions ws len) (moved (chunk * 1024 + (from + offset - chunk * 1024))) in
     let b = length-map (kept_between_places q from to) (moved offset) in
-    let count = c.load-words-n.ensures.count in
+    let count = c.load_words-n.ensures.count in
     record {
       count = omega arith;
-      served = c.serve-chunk-words.ensures ∙ ap (serving L s c.args.at) same;
+      served = c.serve_chunk_words.ensures ∙ ap (serving L s c.args.at) same;
     }
 
 pub returns-else-n-gt0 : goal.returns-else-n-gt0
@@ -91,17 +91,17 @@ returns-else-n-gt0 g c =
     let from = c.args.«from» in
     let to = c.args.to in
     let chunk = c.args.chunk in
-    let ws = c.load-words-n.new.words in
+    let ws = c.load_words-n.new.words in
     let len : ℕ = to - from in
     let low = c.requires.low in
     let base : chunk * 1024 + (from + offset - chunk * 1024) ≡ offset + from = omega arith in
-    let same : map (moved (chunk * 1024 + (from + offset - chunk * 1024))) (mask_positions ws len) ≡ at offset (kept_between_places q from to) = ap (map (moved (chunk * 1024 + (from + offset - chunk * 1024)))) c.load-words-n.ensures.picks ∙ kept_from q offset from to (chunk * 1024 + (from + offset - chunk * 1024)) base in
+    let same : map (moved (chunk * 1024 + (from + offset - chunk * 1024))) (mask_positions ws len) ≡ at offset (kept_between_places q from to) = ap (map (moved (chunk * 1024 + (from + offset - chunk * 1024)))) c.load_words-n.ensures.picks ∙ kept_from q offset from to (chunk * 1024 + (from + offset - chunk * 1024)) base in
     let L = limit_at_width g.D.Item.Element.bytes in
     let s = storing (g.D.ChunkDecoder.readings c.args.source.now) (g.D.ChunkDecoder.allowance c.args.source.now) c.args.output.now c.args.scratch.now in
     let sizes = ap length same in
     let a = length-map (mask_positions ws len) (moved (chunk * 1024 + (from + offset - chunk * 1024))) in
     let b = length-map (kept_between_places q from to) (moved offset) in
-    let count = c.load-words-n.ensures.count in
+    let count = c.load_words-n.ensures.count in
     let none = c.if-n-gt0.false in
     record {
       count = omega arith;

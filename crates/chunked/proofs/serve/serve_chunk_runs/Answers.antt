@@ -9,8 +9,8 @@ use Rattle.chunked.proofs.Fetching.{put_rest}
 use Rattle.chunked.proofs.Serving.{at_zero, clear_chunk, clear_sparse, leaves_served, picked_is, sparse, straight, through, written_within}
 use Rattle.chunked.proofs.serve.serve_chunk_runs.Goals as goal
 
-pub fetch-indices-requires : goal.fetch-indices-requires
-fetch-indices-requires g c =
+pub fetch_indices-requires : goal.fetch_indices-requires
+fetch_indices-requires g c =
     let L = limit_at_width g.D.Item.Element.bytes in
     let s = storing (g.D.ChunkDecoder.readings c.args.source.now) (g.D.ChunkDecoder.allowance c.args.source.now) c.args.output.now c.args.scratch.now in
     let chunk = c.args.chunk in
@@ -19,16 +19,16 @@ fetch-indices-requires g c =
     let plain = at_zero ys in
     let ok = subst (Servable (offered L s at) chunk) (sym plain) c.requires.servable in
     let whole = g.D.ChunkDecoder.whole c.args.source.now in
-    let limit = c.sparse-limit-limit.ensures in
+    let limit = c.sparse_limit-limit.ensures in
     let count = c.requires.count in
     let same = ap length plain in
     let few = c.if-n-limit.true in
     let room = written_within L s at chunk ys c.requires.servable in
-    let js = picked_is c.spread-runs.new.out _ (map (shifted 0 (chunk * 1024)) ys) c.args.n c.spread-runs.ensures (length-map ys (shifted 0 (chunk * 1024)) ∙ sym count) in
+    let js = picked_is c.spread_runs.new.out _ (map (shifted 0 (chunk * 1024)) ys) c.args.n c.spread_runs.ensures (length-map ys (shifted 0 (chunk * 1024)) ∙ sym count) in
     record { within = omega arith; clear = clear_sparse L s at chunk 0 ys ok whole _ js (omega arith) }
 
-pub fetch-chunk-requires : goal.fetch-chunk-requires
-fetch-chunk-requires g c =
+pub fetch_chunk-requires : goal.fetch_chunk-requires
+fetch_chunk-requires g c =
     let L = limit_at_width g.D.Item.Element.bytes in
     let s = storing (g.D.ChunkDecoder.readings c.args.source.now) (g.D.ChunkDecoder.allowance c.args.source.now) c.args.output.now c.args.scratch.now in
     let chunk = c.args.chunk in
@@ -37,7 +37,7 @@ fetch-chunk-requires g c =
     let plain = at_zero ys in
     let ok = subst (Servable (offered L s at) chunk) (sym plain) c.requires.servable in
     let whole = g.D.ChunkDecoder.whole c.args.source.now in
-    let limit = c.sparse-limit-limit.ensures in
+    let limit = c.sparse_limit-limit.ensures in
     let count = c.requires.count in
     let same = ap length plain in
     let more = c.if-n-limit.false in
@@ -46,8 +46,8 @@ fetch-chunk-requires g c =
     let rest = length-drop at c.args.output.now in
     record { within = omega arith; clear = clear_chunk L s at chunk ys c.requires.servable (drop at c.args.output.now) (omega arith) (omega arith) }
 
-pub fetch-chunk-requires-else-n-eq-CHUNK : goal.fetch-chunk-requires-else-n-eq-CHUNK
-fetch-chunk-requires-else-n-eq-CHUNK g c =
+pub fetch_chunk-requires-else-n-eq-CHUNK : goal.fetch_chunk-requires-else-n-eq-CHUNK
+fetch_chunk-requires-else-n-eq-CHUNK g c =
     let L = limit_at_width g.D.Item.Element.bytes in
     let s = storing (g.D.ChunkDecoder.readings c.args.source.now) (g.D.ChunkDecoder.allowance c.args.source.now) c.args.output.now c.args.scratch.now in
     let chunk = c.args.chunk in
@@ -56,7 +56,7 @@ fetch-chunk-requires-else-n-eq-CHUNK g c =
     let plain = at_zero ys in
     let ok = subst (Servable (offered L s at) chunk) (sym plain) c.requires.servable in
     let whole = g.D.ChunkDecoder.whole c.args.source.now in
-    let limit = c.sparse-limit-limit.ensures in
+    let limit = c.sparse_limit-limit.ensures in
     let count = c.requires.count in
     let same = ap length plain in
     let more = c.if-n-limit.false in
@@ -72,12 +72,12 @@ returns-then-n-limit g c =
     let plain = at_zero ys in
     let ok = subst (Servable (offered L s at) chunk) (sym plain) c.requires.servable in
     let whole = g.D.ChunkDecoder.whole c.args.source.now in
-    let limit = c.sparse-limit-limit.ensures in
+    let limit = c.sparse_limit-limit.ensures in
     let count = c.requires.count in
     let same = ap length plain in
-    let e = c.fetch-indices.ensures in
+    let e = c.fetch_indices.ensures in
     let few = c.if-n-limit.true in
-    let js = picked_is c.spread-runs.new.out _ (map (shifted 0 (chunk * 1024)) ys) c.args.n c.spread-runs.ensures (length-map ys (shifted 0 (chunk * 1024)) ∙ sym count) in
+    let js = picked_is c.spread_runs.new.out _ (map (shifted 0 (chunk * 1024)) ys) c.args.n c.spread_runs.ensures (length-map ys (shifted 0 (chunk * 1024)) ∙ sym count) in
     leaves_served L s at chunk (places_at 0 ys) ok _ _ _ _ (sparse L s at chunk 0 ys ok whole _ _ _ _ (omega arith) js (record { kept = e.kept; paid = e.paid; wrote = e.wrote })) ∙ ap (serving L s at) plain
 
 pub returns-then-n-eq-CHUNK : goal.returns-then-n-eq-CHUNK
@@ -90,10 +90,10 @@ returns-then-n-eq-CHUNK g c =
     let plain = at_zero ys in
     let ok = subst (Servable (offered L s at) chunk) (sym plain) c.requires.servable in
     let whole = g.D.ChunkDecoder.whole c.args.source.now in
-    let limit = c.sparse-limit-limit.ensures in
+    let limit = c.sparse_limit-limit.ensures in
     let count = c.requires.count in
     let same = ap length plain in
-    let e = c.fetch-chunk.ensures in
+    let e = c.fetch_chunk.ensures in
     let more = c.if-n-limit.false in
     let all = c.if-n-eq-CHUNK.true in
     leaves_served L s at chunk ys c.requires.servable _ _ _ _ (straight L s at chunk ys c.requires.servable whole _ _ _ (omega arith) (omega arith) (record { kept = e.kept; paid = e.paid; wrote = e.wrote }))
@@ -108,12 +108,12 @@ returns-else-n-eq-CHUNK g c =
     let plain = at_zero ys in
     let ok = subst (Servable (offered L s at) chunk) (sym plain) c.requires.servable in
     let whole = g.D.ChunkDecoder.whole c.args.source.now in
-    let limit = c.sparse-limit-limit.ensures in
+    let limit = c.sparse_limit-limit.ensures in
     let count = c.requires.count in
     let same = ap length plain in
-    let e = c.fetch-chunk-else-n-eq-CHUNK.ensures in
+    let e = c.fetch_chunk-else-n-eq-CHUNK.ensures in
     let more = c.if-n-limit.false in
     let not-all = c.if-n-eq-CHUNK.false in
-    let part = c.copy-runs.new.dst in
-    let copied = c.copy-runs.ensures ∙ ap (λ zs. splice zs 0 (gather c.fetch-chunk-else-n-eq-CHUNK.new.output (map (shifted 0 (chunk * 1024)) ys))) (take_rest s.output at) in
+    let part = c.copy_runs.new.dst in
+    let copied = c.copy_runs.ensures ∙ ap (λ zs. splice zs 0 (gather c.fetch_chunk-else-n-eq-CHUNK.new.output (map (shifted 0 (chunk * 1024)) ys))) (take_rest s.output at) in
     leaves_served L s at chunk (places_at 0 ys) ok _ _ _ _ (through L s at chunk 0 ys ok whole _ _ part _ _ (omega arith) (λ x. not-all (count ∙ x)) (record { kept = e.kept; paid = e.paid; wrote = e.wrote }) copied (put_rest s.output part at)) ∙ ap (serving L s at) plain

@@ -15,22 +15,22 @@ loop-i-init g c =
     let s = storing (g.D.ChunkDecoder.readings c.args.source.now) (g.D.ChunkDecoder.allowance c.args.source.now) c.args.output.now c.args.scratch.now in
     record { within = omega arith; state = serving_none (limit_at_width g.D.Item.Element.bytes) s c.args.at; parted = λ k h. absurd (omega arith) }
 
-pub overflow-add-chunk : goal.overflow-add-chunk
-overflow-add-chunk g c =
+pub overflow_add-chunk : goal.overflow_add-chunk
+overflow_add-chunk g c =
     let less = below_limit c.args.offset c.args.indices.now c.requires.rising c.requires.small c.loop-i.i c.loop-i-test.true in
     let small = c.requires.small in
     let fits : get_or c.args.indices.now c.loop-i.i 0 + c.args.offset < 2 ^ 64 = omega arith in
     search rules
 
-pub overflow-mul-chunk : goal.overflow-mul-chunk
-overflow-mul-chunk g c =
+pub overflow_mul-chunk : goal.overflow_mul-chunk
+overflow_mul-chunk g c =
     let less = below_limit c.args.offset c.args.indices.now c.requires.rising c.requires.small c.loop-i.i c.loop-i-test.true in
     let small = c.requires.small in
     let fits : ((get_or c.args.indices.now c.loop-i.i 0 + c.args.offset) / 1024 + 1) * 1024 < 2 ^ 64 = omega arith in
     search rules
 
-pub overflow-add-at : goal.overflow-add-at
-overflow-add-at g c =
+pub overflow_add-at : goal.overflow_add-at
+overflow_add-at g c =
     let L = limit_at_width g.D.Item.Element.bytes in
     let s = storing (g.D.ChunkDecoder.readings c.args.source.now) (g.D.ChunkDecoder.allowance c.args.source.now) c.args.output.now c.args.scratch.now in
     let t = storing (g.D.ChunkDecoder.readings c.loop-i.source) (g.D.ChunkDecoder.allowance c.loop-i.source) c.loop-i.output c.loop-i.scratch in
@@ -38,9 +38,9 @@ overflow-add-at g c =
     let offset = c.args.offset in
     let ps = at offset is in
     let i = c.loop-i.i in
-    let j = c.end-below-end.result in
+    let j = c.end_below-end.result in
     let chunk = (get_or is i 0 + offset) / 1024 in
-    let e = c.end-below-end.ensures in
+    let e = c.end_below-end.ensures in
     let k = cut_here offset is c.requires.rising c.requires.small i j chunk c.loop-i-test.true refl c.loop-i.invariant.parted e.within.0 e.within.1 e.below e.past in
     let up = rising_shifted offset 0 16777216 is c.requires.rising in
     let ok = granted (offered L s c.args.at) ps c.requires.granted in
@@ -51,8 +51,8 @@ overflow-add-at g c =
     let fits : c.args.at + i < 2 ^ 64 = omega arith in
     search rules
 
-pub serve-chunk-indices-requires : goal.serve-chunk-indices-requires
-serve-chunk-indices-requires g c =
+pub serve_chunk_indices-requires : goal.serve_chunk_indices-requires
+serve_chunk_indices-requires g c =
     let L = limit_at_width g.D.Item.Element.bytes in
     let s = storing (g.D.ChunkDecoder.readings c.args.source.now) (g.D.ChunkDecoder.allowance c.args.source.now) c.args.output.now c.args.scratch.now in
     let t = storing (g.D.ChunkDecoder.readings c.loop-i.source) (g.D.ChunkDecoder.allowance c.loop-i.source) c.loop-i.output c.loop-i.scratch in
@@ -60,9 +60,9 @@ serve-chunk-indices-requires g c =
     let offset = c.args.offset in
     let ps = at offset is in
     let i = c.loop-i.i in
-    let j = c.end-below-end.result in
+    let j = c.end_below-end.result in
     let chunk = (get_or is i 0 + offset) / 1024 in
-    let e = c.end-below-end.ensures in
+    let e = c.end_below-end.ensures in
     let k = cut_here offset is c.requires.rising c.requires.small i j chunk c.loop-i-test.true refl c.loop-i.invariant.parted e.within.0 e.within.1 e.below e.past in
     let up = rising_shifted offset 0 16777216 is c.requires.rising in
     let ok = granted (offered L s c.args.at) ps c.requires.granted in
@@ -79,16 +79,16 @@ loop-i-preserved g c =
     let offset = c.args.offset in
     let ps = at offset is in
     let i = c.loop-i.i in
-    let j = c.end-below-end.result in
+    let j = c.end_below-end.result in
     let chunk = (get_or is i 0 + offset) / 1024 in
-    let e = c.end-below-end.ensures in
+    let e = c.end_below-end.ensures in
     let k = cut_here offset is c.requires.rising c.requires.small i j chunk c.loop-i-test.true refl c.loop-i.invariant.parted e.within.0 e.within.1 e.below e.past in
     let up = rising_shifted offset 0 16777216 is c.requires.rising in
     let ok = granted (offered L s c.args.at) ps c.requires.granted in
     let whole = g.D.ChunkDecoder.whole c.args.source.now in
-    let after = c.serve-chunk-indices.new.source in
-    let u = storing (g.D.ChunkDecoder.readings after) (g.D.ChunkDecoder.allowance after) c.serve-chunk-indices.new.output c.serve-chunk-indices.new.scratch in
-    serves_more L s t c.args.at ps i j chunk _ _ c.loop-i.invariant k up ok whole c.requires.room u (c.serve-chunk-indices.ensures ∙ ap (serving L t (c.args.at + i)) (between_at offset is i j))
+    let after = c.serve_chunk_indices.new.source in
+    let u = storing (g.D.ChunkDecoder.readings after) (g.D.ChunkDecoder.allowance after) c.serve_chunk_indices.new.output c.serve_chunk_indices.new.scratch in
+    serves_more L s t c.args.at ps i j chunk _ _ c.loop-i.invariant k up ok whole c.requires.room u (c.serve_chunk_indices.ensures ∙ ap (serving L t (c.args.at + i)) (between_at offset is i j))
 
 pub loop-i-smaller : goal.loop-i-smaller
 loop-i-smaller g c =
@@ -99,9 +99,9 @@ loop-i-smaller g c =
     let offset = c.args.offset in
     let ps = at offset is in
     let i = c.loop-i.i in
-    let j = c.end-below-end.result in
+    let j = c.end_below-end.result in
     let chunk = (get_or is i 0 + offset) / 1024 in
-    let e = c.end-below-end.ensures in
+    let e = c.end_below-end.ensures in
     let k = cut_here offset is c.requires.rising c.requires.small i j chunk c.loop-i-test.true refl c.loop-i.invariant.parted e.within.0 e.within.1 e.below e.past in
     let more = k.more in
     omega arith

@@ -15,15 +15,15 @@ loop-next-init g c =
     let s = storing (g.D.ChunkDecoder.readings c.args.source.now) (g.D.ChunkDecoder.allowance c.args.source.now) c.args.output.now c.args.scratch.now in
     (record { within = omega arith; state = serving_none (limit_at_width g.D.Item.Element.bytes) s c.args.at; parted = λ k h. absurd (omega arith) }, cursor_start c.args.offset c.args.runs.now c.requires.rising c.requires.small)
 
-pub overflow-add-runs : goal.overflow-add-runs
-overflow-add-runs g c =
+pub overflow_add-runs : goal.overflow_add-runs
+overflow_add-runs g c =
     let at-r = runs_at 0 16777216 c.args.runs.now c.loop-next.next c.requires.rising c.loop-next-test.true in
     let small = c.requires.small in
     let fits : (get_or c.args.runs.now c.loop-next.next no_run).start + c.args.offset < 2 ^ 64 = omega arith in
     search rules
 
-pub overflow-mul-end : goal.overflow-mul-end
-overflow-mul-end g c =
+pub overflow_mul-end : goal.overflow_mul-end
+overflow_mul-end g c =
     let runs = c.args.runs.now in
     let offset = c.args.offset in
     let here = c.loop-next-test.true in
@@ -38,8 +38,8 @@ overflow-mul-end g c =
     let fits : (c.max-chunk.result / 1024 + 1) * 1024 < 2 ^ 64 = omega arith in
     search rules
 
-pub runs-below-part-requires : goal.runs-below-part-requires
-runs-below-part-requires g c =
+pub runs_below-part-requires : goal.runs_below-part-requires
+runs_below-part-requires g c =
     let runs = c.args.runs.now in
     let offset = c.args.offset in
     let here = c.loop-next-test.true in
@@ -53,8 +53,8 @@ runs-below-part-requires g c =
     let top = c.max-chunk.ensures in
     record { small = c.requires.small; rising = c.requires.rising; within = cursor.within; ahead = cursor.ahead; order = omega arith }
 
-pub overflow-add-at : goal.overflow-add-at
-overflow-add-at g c =
+pub overflow_add-at : goal.overflow_add-at
+overflow_add-at g c =
     let runs = c.args.runs.now in
     let offset = c.args.offset in
     let here = c.loop-next-test.true in
@@ -64,9 +64,9 @@ overflow-add-at g c =
     let resume = c.loop-next.resume in
     let chunk = c.max-chunk.result / 1024 in
     let which : chunk ≡ max ((get_or runs next no_run).start + offset) resume / 1024 = ap (λ p. p / 1024) c.max-chunk.ensures in
-    let e = c.runs-below-part.ensures in
-    let n = c.runs-below-part.result.count in
-    let after = c.runs-below-part.result.next in
+    let e = c.runs_below-part.ensures in
+    let n = c.runs_below-part.result.count in
+    let after = c.runs_below-part.result.next in
     let ps = run_places offset runs in
     let k = cursor_cut offset runs c.requires.rising c.requires.small done next resume cursor here chunk n after which e.count e.next e.done c.loop-next.invariant.0.parted in
     let L = limit_at_width g.D.Item.Element.bytes in
@@ -81,8 +81,8 @@ overflow-add-at g c =
     let fits : c.args.at + done < 2 ^ 64 = omega arith in
     search rules
 
-pub overflow-add-done : goal.overflow-add-done
-overflow-add-done g c =
+pub overflow_add-done : goal.overflow_add-done
+overflow_add-done g c =
     let runs = c.args.runs.now in
     let offset = c.args.offset in
     let here = c.loop-next-test.true in
@@ -92,9 +92,9 @@ overflow-add-done g c =
     let resume = c.loop-next.resume in
     let chunk = c.max-chunk.result / 1024 in
     let which : chunk ≡ max ((get_or runs next no_run).start + offset) resume / 1024 = ap (λ p. p / 1024) c.max-chunk.ensures in
-    let e = c.runs-below-part.ensures in
-    let n = c.runs-below-part.result.count in
-    let after = c.runs-below-part.result.next in
+    let e = c.runs_below-part.ensures in
+    let n = c.runs_below-part.result.count in
+    let after = c.runs_below-part.result.next in
     let ps = run_places offset runs in
     let k = cursor_cut offset runs c.requires.rising c.requires.small done next resume cursor here chunk n after which e.count e.next e.done c.loop-next.invariant.0.parted in
     let L = limit_at_width g.D.Item.Element.bytes in
@@ -109,8 +109,8 @@ overflow-add-done g c =
     let fits : done + n < 2 ^ 64 = omega arith in
     search rules
 
-pub serve-chunk-runs-requires : goal.serve-chunk-runs-requires
-serve-chunk-runs-requires g c =
+pub serve_chunk_runs-requires : goal.serve_chunk_runs-requires
+serve_chunk_runs-requires g c =
     let runs = c.args.runs.now in
     let offset = c.args.offset in
     let here = c.loop-next-test.true in
@@ -120,9 +120,9 @@ serve-chunk-runs-requires g c =
     let resume = c.loop-next.resume in
     let chunk = c.max-chunk.result / 1024 in
     let which : chunk ≡ max ((get_or runs next no_run).start + offset) resume / 1024 = ap (λ p. p / 1024) c.max-chunk.ensures in
-    let e = c.runs-below-part.ensures in
-    let n = c.runs-below-part.result.count in
-    let after = c.runs-below-part.result.next in
+    let e = c.runs_below-part.ensures in
+    let n = c.runs_below-part.result.count in
+    let after = c.runs_below-part.result.next in
     let ps = run_places offset runs in
     let k = cursor_cut offset runs c.requires.rising c.requires.small done next resume cursor here chunk n after which e.count e.next e.done c.loop-next.invariant.0.parted in
     let L = limit_at_width g.D.Item.Element.bytes in
@@ -153,9 +153,9 @@ loop-next-preserved g c =
     let resume = c.loop-next.resume in
     let chunk = c.max-chunk.result / 1024 in
     let which : chunk ≡ max ((get_or runs next no_run).start + offset) resume / 1024 = ap (λ p. p / 1024) c.max-chunk.ensures in
-    let e = c.runs-below-part.ensures in
-    let n = c.runs-below-part.result.count in
-    let after = c.runs-below-part.result.next in
+    let e = c.runs_below-part.ensures in
+    let n = c.runs_below-part.result.count in
+    let after = c.runs_below-part.result.next in
     let ps = run_places offset runs in
     let k = cursor_cut offset runs c.requires.rising c.requires.small done next resume cursor here chunk n after which e.count e.next e.done c.loop-next.invariant.0.parted in
     let L = limit_at_width g.D.Item.Element.bytes in
@@ -168,9 +168,9 @@ loop-next-preserved g c =
     let same = part_runs offset runs c.requires.rising c.requires.small done next resume cursor here chunk n after which e.count e.next e.done last c.min-last.ensures e.past in
     let part = part_is offset runs c.requires.rising c.requires.small done next resume cursor here chunk n after which e.count e.next e.done in
     let both : between done (done + n) ps ≡ in_span offset resume ((chunk + 1) * 1024) (between next last runs) = part ∙ sym same in
-    let src = c.serve-chunk-runs.new.source in
-    let u = storing (g.D.ChunkDecoder.readings src) (g.D.ChunkDecoder.allowance src) c.serve-chunk-runs.new.output c.serve-chunk-runs.new.scratch in (
-      serves_more L s t c.args.at ps done (done + n) chunk _ _ c.loop-next.invariant.0 k up ok whole c.requires.room u (c.serve-chunk-runs.ensures ∙ ap (serving L t (c.args.at + done)) (sym both)),
+    let src = c.serve_chunk_runs.new.source in
+    let u = storing (g.D.ChunkDecoder.readings src) (g.D.ChunkDecoder.allowance src) c.serve_chunk_runs.new.output c.serve_chunk_runs.new.scratch in (
+      serves_more L s t c.args.at ps done (done + n) chunk _ _ c.loop-next.invariant.0 k up ok whole c.requires.room u (c.serve_chunk_runs.ensures ∙ ap (serving L t (c.args.at + done)) (sym both)),
       cursor_more offset runs c.requires.rising c.requires.small done next resume cursor here chunk n after which e.count e.next e.done e.past,
     )
 
@@ -185,9 +185,9 @@ loop-next-smaller g c =
     let resume = c.loop-next.resume in
     let chunk = c.max-chunk.result / 1024 in
     let which : chunk ≡ max ((get_or runs next no_run).start + offset) resume / 1024 = ap (λ p. p / 1024) c.max-chunk.ensures in
-    let e = c.runs-below-part.ensures in
-    let n = c.runs-below-part.result.count in
-    let after = c.runs-below-part.result.next in
+    let e = c.runs_below-part.ensures in
+    let n = c.runs_below-part.result.count in
+    let after = c.runs_below-part.result.next in
     let ps = run_places offset runs in
     let k = cursor_cut offset runs c.requires.rising c.requires.small done next resume cursor here chunk n after which e.count e.next e.done c.loop-next.invariant.0.parted in
     let more = k.more in

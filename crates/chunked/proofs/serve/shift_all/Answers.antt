@@ -5,14 +5,14 @@ use Rattle.kernels.specs.Moved.{Within, shifted, splice}
 use Rattle.kernels.proofs.Gathered.{write_more}
 use Rattle.chunked.proofs.serve.shift_all.Goals as goal
 
-pub overflow-add-out : goal.overflow-add-out
-overflow-add-out c =
+pub overflow_add-out : goal.overflow_add-out
+overflow_add-out c =
     let h = All-get_or (Within c.args.up c.args.down 1024) c.args.indices.now c.loop-k.k 0 c.loop-k-test.true c.requires.inside in
     let fits : get_or c.args.indices.now c.loop-k.k 0 + c.args.up < 2 ^ 64 = h.fits in
     search rules
 
-pub overflow-sub-out : goal.overflow-sub-out
-overflow-sub-out c = (All-get_or (Within c.args.up c.args.down 1024) c.args.indices.now c.loop-k.k 0 c.loop-k-test.true c.requires.inside).above
+pub overflow_sub-out : goal.overflow_sub-out
+overflow_sub-out c = (All-get_or (Within c.args.up c.args.down 1024) c.args.indices.now c.loop-k.k 0 c.loop-k-test.true c.requires.inside).above
 
 pub loop-k-preserved : goal.loop-k-preserved
 loop-k-preserved c =

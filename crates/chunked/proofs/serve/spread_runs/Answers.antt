@@ -10,8 +10,8 @@ use Rattle.chunked.specs.Spans.{Spans, in_span, span_end, span_start, spanned}
 use Rattle.chunked.proofs.Spanning.{counting_less, put_more, span_take_count, span_take_more, span_take_most}
 use Rattle.chunked.proofs.serve.spread_runs.Goals as goal
 
-pub cut-run-piece-requires : goal.cut-run-piece-requires
-cut-run-piece-requires c =
+pub cut_run-piece-requires : goal.cut_run-piece-requires
+cut_run-piece-requires c =
     let runs = c.args.runs.now in
     let i = c.loop-run.run_index in
     let offset = c.args.offset in
@@ -22,8 +22,8 @@ cut-run-piece-requires c =
     let ok = All-get_or (Spans offset lo hi c.args.base) runs i no_run here c.requires.runs in
     record { start = ok.«from»; «end» = ok.to }
 
-pub overflow-sub-n : goal.overflow-sub-n
-overflow-sub-n c =
+pub overflow_sub-n : goal.overflow_sub-n
+overflow_sub-n c =
     let runs = c.args.runs.now in
     let i = c.loop-run.run_index in
     let offset = c.args.offset in
@@ -32,8 +32,8 @@ overflow-sub-n c =
     let r = get_or runs i no_run in
     let here = c.loop-run-test.true in
     let ok = All-get_or (Spans offset lo hi c.args.base) runs i no_run here c.requires.runs in
-    let a : c.cut-run-piece.result.start ≡ span_start offset lo hi r = ap (λ x. x.start) c.cut-run-piece.ensures in
-    let b : c.cut-run-piece.result.«end» ≡ span_end offset hi r = ap (λ x. x.«end») c.cut-run-piece.ensures in
+    let a : c.cut_run-piece.result.start ≡ span_start offset lo hi r = ap (λ x. x.start) c.cut_run-piece.ensures in
+    let b : c.cut_run-piece.result.«end» ≡ span_end offset hi r = ap (λ x. x.«end») c.cut_run-piece.ensures in
     let ordered = ok.ordered in
     let above = ok.above in
     let count = span_take_count offset lo hi runs i here in
@@ -42,11 +42,11 @@ overflow-sub-n c =
     let bound = c.requires.bound in
     let inv = c.loop-run.invariant.0 in
     let keep = c.loop-run.auto.out in
-    let fits : c.loop-run.at + (c.cut-run-piece.result.«end» - c.cut-run-piece.result.start) ≤ length c.args.out.now = omega arith in
+    let fits : c.loop-run.at + (c.cut_run-piece.result.«end» - c.cut_run-piece.result.start) ≤ length c.args.out.now = omega arith in
     search rules
 
-pub overflow-add-at : goal.overflow-add-at
-overflow-add-at c =
+pub overflow_add-at : goal.overflow_add-at
+overflow_add-at c =
     let runs = c.args.runs.now in
     let i = c.loop-run.run_index in
     let offset = c.args.offset in
@@ -55,8 +55,8 @@ overflow-add-at c =
     let r = get_or runs i no_run in
     let here = c.loop-run-test.true in
     let ok = All-get_or (Spans offset lo hi c.args.base) runs i no_run here c.requires.runs in
-    let a : c.cut-run-piece.result.start ≡ span_start offset lo hi r = ap (λ x. x.start) c.cut-run-piece.ensures in
-    let b : c.cut-run-piece.result.«end» ≡ span_end offset hi r = ap (λ x. x.«end») c.cut-run-piece.ensures in
+    let a : c.cut_run-piece.result.start ≡ span_start offset lo hi r = ap (λ x. x.start) c.cut_run-piece.ensures in
+    let b : c.cut_run-piece.result.«end» ≡ span_end offset hi r = ap (λ x. x.«end») c.cut_run-piece.ensures in
     let ordered = ok.ordered in
     let above = ok.above in
     let count = span_take_count offset lo hi runs i here in
@@ -65,11 +65,11 @@ overflow-add-at c =
     let bound = c.requires.bound in
     let inv = c.loop-run.invariant.0 in
     let keep = c.loop-run.auto.out in
-    let fits : c.loop-run.at + (c.cut-run-piece.result.«end» - c.cut-run-piece.result.start) ≤ length c.args.out.now = omega arith in
+    let fits : c.loop-run.at + (c.cut_run-piece.result.«end» - c.cut_run-piece.result.start) ≤ length c.args.out.now = omega arith in
     search rules
 
-pub offset-bounds-out-at : goal.offset-bounds-out-at
-offset-bounds-out-at c =
+pub offset_bounds-out-at : goal.offset_bounds-out-at
+offset_bounds-out-at c =
     let runs = c.args.runs.now in
     let i = c.loop-run.run_index in
     let offset = c.args.offset in
@@ -78,8 +78,8 @@ offset-bounds-out-at c =
     let r = get_or runs i no_run in
     let here = c.loop-run-test.true in
     let ok = All-get_or (Spans offset lo hi c.args.base) runs i no_run here c.requires.runs in
-    let a : c.cut-run-piece.result.start ≡ span_start offset lo hi r = ap (λ x. x.start) c.cut-run-piece.ensures in
-    let b : c.cut-run-piece.result.«end» ≡ span_end offset hi r = ap (λ x. x.«end») c.cut-run-piece.ensures in
+    let a : c.cut_run-piece.result.start ≡ span_start offset lo hi r = ap (λ x. x.start) c.cut_run-piece.ensures in
+    let b : c.cut_run-piece.result.«end» ≡ span_end offset hi r = ap (λ x. x.«end») c.cut_run-piece.ensures in
     let ordered = ok.ordered in
     let above = ok.above in
     let count = span_take_count offset lo hi runs i here in
@@ -88,11 +88,11 @@ offset-bounds-out-at c =
     let bound = c.requires.bound in
     let inv = c.loop-run.invariant.0 in
     let keep = c.loop-run.auto.out in
-    let fits : c.loop-run.at + (c.cut-run-piece.result.«end» - c.cut-run-piece.result.start) ≤ length c.args.out.now = omega arith in
+    let fits : c.loop-run.at + (c.cut_run-piece.result.«end» - c.cut_run-piece.result.start) ≤ length c.args.out.now = omega arith in
     search rules
 
-pub slice-bounds-fill-counting-end : goal.slice-bounds-fill-counting-end
-slice-bounds-fill-counting-end c =
+pub slice_bounds-fill_counting-end : goal.slice_bounds-fill_counting-end
+slice_bounds-fill_counting-end c =
     let runs = c.args.runs.now in
     let i = c.loop-run.run_index in
     let offset = c.args.offset in
@@ -101,8 +101,8 @@ slice-bounds-fill-counting-end c =
     let r = get_or runs i no_run in
     let here = c.loop-run-test.true in
     let ok = All-get_or (Spans offset lo hi c.args.base) runs i no_run here c.requires.runs in
-    let a : c.cut-run-piece.result.start ≡ span_start offset lo hi r = ap (λ x. x.start) c.cut-run-piece.ensures in
-    let b : c.cut-run-piece.result.«end» ≡ span_end offset hi r = ap (λ x. x.«end») c.cut-run-piece.ensures in
+    let a : c.cut_run-piece.result.start ≡ span_start offset lo hi r = ap (λ x. x.start) c.cut_run-piece.ensures in
+    let b : c.cut_run-piece.result.«end» ≡ span_end offset hi r = ap (λ x. x.«end») c.cut_run-piece.ensures in
     let ordered = ok.ordered in
     let above = ok.above in
     let count = span_take_count offset lo hi runs i here in
@@ -111,11 +111,11 @@ slice-bounds-fill-counting-end c =
     let bound = c.requires.bound in
     let inv = c.loop-run.invariant.0 in
     let keep = c.loop-run.auto.out in
-    let fits : c.loop-run.at + (c.cut-run-piece.result.«end» - c.cut-run-piece.result.start) ≤ length c.args.out.now = omega arith in
+    let fits : c.loop-run.at + (c.cut_run-piece.result.«end» - c.cut_run-piece.result.start) ≤ length c.args.out.now = omega arith in
     search rules
 
-pub overflow-sub-piece : goal.overflow-sub-piece
-overflow-sub-piece c =
+pub overflow_sub-piece : goal.overflow_sub-piece
+overflow_sub-piece c =
     let runs = c.args.runs.now in
     let i = c.loop-run.run_index in
     let offset = c.args.offset in
@@ -124,8 +124,8 @@ overflow-sub-piece c =
     let r = get_or runs i no_run in
     let here = c.loop-run-test.true in
     let ok = All-get_or (Spans offset lo hi c.args.base) runs i no_run here c.requires.runs in
-    let a : c.cut-run-piece.result.start ≡ span_start offset lo hi r = ap (λ x. x.start) c.cut-run-piece.ensures in
-    let b : c.cut-run-piece.result.«end» ≡ span_end offset hi r = ap (λ x. x.«end») c.cut-run-piece.ensures in
+    let a : c.cut_run-piece.result.start ≡ span_start offset lo hi r = ap (λ x. x.start) c.cut_run-piece.ensures in
+    let b : c.cut_run-piece.result.«end» ≡ span_end offset hi r = ap (λ x. x.«end») c.cut_run-piece.ensures in
     let ordered = ok.ordered in
     let above = ok.above in
     let count = span_take_count offset lo hi runs i here in
@@ -134,11 +134,11 @@ overflow-sub-piece c =
     let bound = c.requires.bound in
     let inv = c.loop-run.invariant.0 in
     let keep = c.loop-run.auto.out in
-    let fits : c.loop-run.at + (c.cut-run-piece.result.«end» - c.cut-run-piece.result.start) ≤ length c.args.out.now = omega arith in
+    let fits : c.loop-run.at + (c.cut_run-piece.result.«end» - c.cut_run-piece.result.start) ≤ length c.args.out.now = omega arith in
     search rules
 
-pub overflow-add-at-in-loop-run : goal.overflow-add-at-in-loop-run
-overflow-add-at-in-loop-run c =
+pub overflow_add-at-in-loop-run : goal.overflow_add-at-in-loop-run
+overflow_add-at-in-loop-run c =
     let runs = c.args.runs.now in
     let i = c.loop-run.run_index in
     let offset = c.args.offset in
@@ -147,8 +147,8 @@ overflow-add-at-in-loop-run c =
     let r = get_or runs i no_run in
     let here = c.loop-run-test.true in
     let ok = All-get_or (Spans offset lo hi c.args.base) runs i no_run here c.requires.runs in
-    let a : c.cut-run-piece.result.start ≡ span_start offset lo hi r = ap (λ x. x.start) c.cut-run-piece.ensures in
-    let b : c.cut-run-piece.result.«end» ≡ span_end offset hi r = ap (λ x. x.«end») c.cut-run-piece.ensures in
+    let a : c.cut_run-piece.result.start ≡ span_start offset lo hi r = ap (λ x. x.start) c.cut_run-piece.ensures in
+    let b : c.cut_run-piece.result.«end» ≡ span_end offset hi r = ap (λ x. x.«end») c.cut_run-piece.ensures in
     let ordered = ok.ordered in
     let above = ok.above in
     let count = span_take_count offset lo hi runs i here in
@@ -157,7 +157,7 @@ overflow-add-at-in-loop-run c =
     let bound = c.requires.bound in
     let inv = c.loop-run.invariant.0 in
     let keep = c.loop-run.auto.out in
-    let fits : c.loop-run.at + (c.cut-run-piece.result.«end» - c.cut-run-piece.result.start) ≤ length c.args.out.now = omega arith in
+    let fits : c.loop-run.at + (c.cut_run-piece.result.«end» - c.cut_run-piece.result.start) ≤ length c.args.out.now = omega arith in
     search rules
 
 pub loop-run-preserved : goal.loop-run-preserved
@@ -170,8 +170,8 @@ loop-run-preserved c =
     let r = get_or runs i no_run in
     let here = c.loop-run-test.true in
     let ok = All-get_or (Spans offset lo hi c.args.base) runs i no_run here c.requires.runs in
-    let a : c.cut-run-piece.result.start ≡ span_start offset lo hi r = ap (λ x. x.start) c.cut-run-piece.ensures in
-    let b : c.cut-run-piece.result.«end» ≡ span_end offset hi r = ap (λ x. x.«end») c.cut-run-piece.ensures in
+    let a : c.cut_run-piece.result.start ≡ span_start offset lo hi r = ap (λ x. x.start) c.cut_run-piece.ensures in
+    let b : c.cut_run-piece.result.«end» ≡ span_end offset hi r = ap (λ x. x.«end») c.cut_run-piece.ensures in
     let ordered = ok.ordered in
     let above = ok.above in
     let count = span_take_count offset lo hi runs i here in
@@ -183,12 +183,12 @@ loop-run-preserved c =
     let vs = map (shifted 0 base) (in_span offset lo hi (take i runs)) in
     let ws = map (shifted 0 base) (spanned offset lo hi r) in
     let at = c.loop-run.at in
-    let size : c.cut-run-piece.result.«end» - c.cut-run-piece.result.start ≡ n = omega arith in
-    let k : ℕ = at + (c.cut-run-piece.result.«end» - c.cut-run-piece.result.start) - at in
+    let size : c.cut_run-piece.result.«end» - c.cut_run-piece.result.start ≡ n = omega arith in
+    let k : ℕ = at + (c.cut_run-piece.result.«end» - c.cut_run-piece.result.start) - at in
     let part-size : k ≡ n = omega arith in
     let room' = c.loop-run.auto.out in
     let part-long : length (take k (drop at c.loop-run.out)) ≡ n = ap length (ap (λ m. take m (drop at c.loop-run.out)) part-size) ∙ length-take n (drop at c.loop-run.out) ∙ (let rest = length-drop at c.loop-run.out in omega arith) in
-    let filled : c.fill-counting.new.out ≡ ws = c.fill-counting.ensures ∙ ap₂ range_with_len (ap (λ y. y - base) a) part-long ∙ counting_less base (span_start offset lo hi r) n above in
+    let filled : c.fill_counting.new.out ≡ ws = c.fill_counting.ensures ∙ ap₂ range_with_len (ap (λ y. y - base) a) part-long ∙ counting_less base (span_start offset lo hi r) n above in
     let ws-long : length ws ≡ k = length-map (spanned offset lo hi r) (shifted 0 base) ∙ length-range_with_len (span_start offset lo hi r) n ∙ sym part-size in
     let vs-long : length vs ≡ at = length-map (in_span offset lo hi (take i runs)) (shifted 0 base) ∙ sym inv in
     let all : map (shifted 0 base) (in_span offset lo hi (take (i + 1) runs)) ≡ vs ++ ws = ap (map (shifted 0 base)) (span_take_more offset lo hi runs i here) ∙ map-append (shifted 0 base) (in_span offset lo hi (take i runs)) (spanned offset lo hi r) in (

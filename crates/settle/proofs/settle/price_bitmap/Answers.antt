@@ -32,10 +32,10 @@ loop-chunk-preserved-then-n-eq0 c =
     let offset = c.args.offset in
     let chunk = c.loop-chunk.chunk in
     let t = c.args.terms.now in
-    let n = c.ones-between-n.result in
-    let a : c.chunk-boundary-from.result ≡ boundary offset len chunk = c.chunk-boundary-from.ensures in
-    let b : c.chunk-boundary-to.result ≡ boundary offset len (chunk + 1) = c.chunk-boundary-to.ensures in
-    let ones : n ≡ length (kept_between_places q (boundary offset len chunk) (boundary offset len (chunk + 1))) = c.ones-between-n.ensures ∙ ap₂ (set_between w) a b ∙ set_in_chunk w offset chunk in
+    let n = c.ones_between-n.result in
+    let a : c.chunk_boundary-from.result ≡ boundary offset len chunk = c.chunk_boundary-from.ensures in
+    let b : c.chunk_boundary-to.result ≡ boundary offset len (chunk + 1) = c.chunk_boundary-to.ensures in
+    let ones : n ≡ length (kept_between_places q (boundary offset len chunk) (boundary offset len (chunk + 1))) = c.ones_between-n.ensures ∙ ap₂ (set_between w) a b ∙ set_in_chunk w offset chunk in
     let z = c.if-n-eq0.true in
     let next = count_next q offset len chunk c.requires.small in
     let inv = c.loop-chunk.invariant in
@@ -45,17 +45,17 @@ loop-chunk-preserved-then-n-eq0 c =
     let none : length (at offset part) ≡ 0 = length-map part (moved offset) ∙ sym ones ∙ z in
     (subst (Tallied t c.loop-chunk.tally) (sym (places_next q offset len chunk c.requires.small)) (tallied_still t c.loop-chunk.tally (at offset (kept_between_places q 0 (boundary offset len chunk))) (at offset part) none inv.0), omega arith, inv.2, omega arith)
 
-pub overflow-add-count : goal.overflow-add-count
-overflow-add-count c =
+pub overflow_add-count : goal.overflow_add-count
+overflow_add-count c =
     let w = c.args.window in
     let q = window_bit w in
     let len = w.len in
     let offset = c.args.offset in
     let chunk = c.loop-chunk.chunk in
-    let n = c.ones-between-n.result in
-    let a : c.chunk-boundary-from.result ≡ boundary offset len chunk = c.chunk-boundary-from.ensures in
-    let b : c.chunk-boundary-to.result ≡ boundary offset len (chunk + 1) = c.chunk-boundary-to.ensures in
-    let ones : n ≡ length (kept_between_places q (boundary offset len chunk) (boundary offset len (chunk + 1))) = c.ones-between-n.ensures ∙ ap₂ (set_between w) a b ∙ set_in_chunk w offset chunk in
+    let n = c.ones_between-n.result in
+    let a : c.chunk_boundary-from.result ≡ boundary offset len chunk = c.chunk_boundary-from.ensures in
+    let b : c.chunk_boundary-to.result ≡ boundary offset len (chunk + 1) = c.chunk_boundary-to.ensures in
+    let ones : n ≡ length (kept_between_places q (boundary offset len chunk) (boundary offset len (chunk + 1))) = c.ones_between-n.ensures ∙ ap₂ (set_between w) a b ∙ set_in_chunk w offset chunk in
     let next = count_next q offset len chunk c.requires.small in
     let few = kept_few q 0 (boundary offset len (chunk + 1)) in
     let same = c.loop-chunk.invariant.3 in
@@ -70,10 +70,10 @@ take-requires c =
     let len = w.len in
     let offset = c.args.offset in
     let chunk = c.loop-chunk.chunk in
-    let n = c.ones-between-n.result in
-    let a : c.chunk-boundary-from.result ≡ boundary offset len chunk = c.chunk-boundary-from.ensures in
-    let b : c.chunk-boundary-to.result ≡ boundary offset len (chunk + 1) = c.chunk-boundary-to.ensures in
-    let ones : n ≡ length (kept_between_places q (boundary offset len chunk) (boundary offset len (chunk + 1))) = c.ones-between-n.ensures ∙ ap₂ (set_between w) a b ∙ set_in_chunk w offset chunk in
+    let n = c.ones_between-n.result in
+    let a : c.chunk_boundary-from.result ≡ boundary offset len chunk = c.chunk_boundary-from.ensures in
+    let b : c.chunk_boundary-to.result ≡ boundary offset len (chunk + 1) = c.chunk_boundary-to.ensures in
+    let ones : n ≡ length (kept_between_places q (boundary offset len chunk) (boundary offset len (chunk + 1))) = c.ones_between-n.ensures ∙ ap₂ (set_between w) a b ∙ set_in_chunk w offset chunk in
     let ne = c.if-n-eq0.false in
     let next = count_next q offset len chunk c.requires.small in
     let few = kept_few q 0 (boundary offset len (chunk + 1)) in
@@ -90,10 +90,10 @@ loop-chunk-preserved c =
     let offset = c.args.offset in
     let chunk = c.loop-chunk.chunk in
     let t = c.args.terms.now in
-    let n = c.ones-between-n.result in
-    let a : c.chunk-boundary-from.result ≡ boundary offset len chunk = c.chunk-boundary-from.ensures in
-    let b : c.chunk-boundary-to.result ≡ boundary offset len (chunk + 1) = c.chunk-boundary-to.ensures in
-    let ones : n ≡ length (kept_between_places q (boundary offset len chunk) (boundary offset len (chunk + 1))) = c.ones-between-n.ensures ∙ ap₂ (set_between w) a b ∙ set_in_chunk w offset chunk in
+    let n = c.ones_between-n.result in
+    let a : c.chunk_boundary-from.result ≡ boundary offset len chunk = c.chunk_boundary-from.ensures in
+    let b : c.chunk_boundary-to.result ≡ boundary offset len (chunk + 1) = c.chunk_boundary-to.ensures in
+    let ones : n ≡ length (kept_between_places q (boundary offset len chunk) (boundary offset len (chunk + 1))) = c.ones_between-n.ensures ∙ ap₂ (set_between w) a b ∙ set_in_chunk w offset chunk in
     let next = count_next q offset len chunk c.requires.small in
     let inv = c.loop-chunk.invariant in
     let same = inv.3 in
@@ -113,20 +113,20 @@ end-requires c =
     let short = c.requires.short in
     omega arith
 
-pub returns-in-err-fee : goal.returns-in-err-fee
-returns-in-err-fee c =
+pub returns-in_err-fee : goal.returns-in_err-fee
+returns-in_err-fee c =
     let w = c.args.window in
     let q = window_bit w in
     let len = w.len in
     let offset = c.args.offset in
     let t = c.args.terms.now in
     let left = c.loop-chunk-test.false in
-    let up = c.div-ceil-chunk-end.ensures in
+    let up = c.div_ceil-chunk-end.ensures in
     let all : boundary offset len c.loop-chunk.chunk ≡ len = omega arith in
     let ps = at offset (kept_between_places q 0 (boundary offset len c.loop-chunk.chunk)) in
     let whole : ps ≡ at offset (window_positions w) = ap (λ b. at offset (kept_between_places q 0 b)) all ∙ ap (at offset) (kept_whole w) in
-    let past = answered_err _ _ _ (sym (c.in-err-fee.ensures ps c.loop-chunk.invariant.0)) in
-    let e = err_from_is_err_and c.from-residual.result c.from-residual.ensures.1 in
+    let past = answered_err _ _ _ (sym (c.in_err-fee.ensures ps c.loop-chunk.invariant.0)) in
+    let e = err_from_is_err_and c.from_residual.result c.from_residual.ensures.1 in
     rw (e.1, e.2) (sym (ap (λ o. answered o (receipt t (at offset (window_positions w)))) (ap (first (past_source t.chunks)) (sym whole) ∙ past)))
 
 pub returns : goal.returns
@@ -137,14 +137,14 @@ returns c =
     let offset = c.args.offset in
     let t = c.args.terms.now in
     let left = c.loop-chunk-test.false in
-    let up = c.div-ceil-chunk-end.ensures in
+    let up = c.div_ceil-chunk-end.ensures in
     let all : boundary offset len c.loop-chunk.chunk ≡ len = omega arith in
     let ps = at offset (kept_between_places q 0 (boundary offset len c.loop-chunk.chunk)) in
     let whole : ps ≡ at offset (window_positions w) = ap (λ b. at offset (kept_between_places q 0 b)) all ∙ ap (at offset) (kept_whole w) in
-    let gave = c.in-ok-fee.ensures ps c.loop-chunk.invariant.0 in
+    let gave = c.in_ok-fee.ensures ps c.loop-chunk.invariant.0 in
     let inside = answered_ok _ _ _ (sym gave) in
     let cost = answered_value _ _ _ (sym gave) in
     let size : c.loop-chunk.count ≡ length (at offset (window_positions w)) = c.loop-chunk.invariant.3 ∙ sym (length-map (kept_between_places q 0 (boundary offset len c.loop-chunk.chunk)) (moved offset)) ∙ ap length whole in
-    let r : Receipt = record { count = c.loop-chunk.count; fee = c.in-ok-fee.fee } in
+    let r : Receipt = record { count = c.loop-chunk.count; fee = c.in_ok-fee.fee } in
     let same : r ≡ receipt t (at offset (window_positions w)) = ap₂ (λ x y. record { count = x; fee = y }) size (sym cost ∙ ap (fee t) whole) in
     ap Ok same ∙ ok_answered (first (past_source t.chunks) (at offset (window_positions w))) (receipt t (at offset (window_positions w))) (ap (first (past_source t.chunks)) (sym whole) ∙ inside)

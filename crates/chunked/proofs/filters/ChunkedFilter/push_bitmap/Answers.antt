@@ -10,23 +10,23 @@ use Rattle.settle.proofs.Settled.{formed_window, places_window, roomy}
 use Rattle.chunked.proofs.Accepted.{accepted, refused_next, served_by}
 use Rattle.chunked.proofs.filters.ChunkedFilter.push_bitmap.Goals as goal
 
-pub returns-in-err-receipt : goal.returns-in-err-receipt
-returns-in-err-receipt g c =
+pub returns-in_err-receipt : goal.returns-in_err-receipt
+returns-in_err-receipt g c =
     let L = limit_at_width g.D.Item.Element.bytes in
     let s = state_of g.D.ChunkDecoder.readings g.D.ChunkDecoder.allowance c.args.self.now c.args.output.now c.args.scratch.now in
     let p : Push = record { offset = c.args.offset; selection = Bitmap c.args.window } in
     let terms : c.terms-terms.result ≡ terms_of L s = c.terms-terms.ensures in
-    let e = err_from_is_err_and c.from-residual.result c.from-residual.ensures.1 in
-    let gave = c.in-err-receipt.ensures ∙ ap (λ t. answer t p) terms in
+    let e = err_from_is_err_and c.from_residual.result c.from_residual.ensures.1 in
+    let gave = c.in_err-receipt.ensures ∙ ap (λ t. answer t p) terms in
     record { value = rw (e.1, e.2) gave; after = refused_next L s p _ (sym gave) }
 
-pub serve-bitmap-requires : goal.serve-bitmap-requires
-serve-bitmap-requires g c =
+pub serve_bitmap-requires : goal.serve_bitmap-requires
+serve_bitmap-requires g c =
     let L = limit_at_width g.D.Item.Element.bytes in
     let s = state_of g.D.ChunkDecoder.readings g.D.ChunkDecoder.allowance c.args.self.now c.args.output.now c.args.scratch.now in
     let p : Push = record { offset = c.args.offset; selection = Bitmap c.args.window } in
     let terms : c.terms-terms.result ≡ terms_of L s = c.terms-terms.ensures in
-    let gave = c.in-ok-receipt.ensures ∙ ap (λ t. answer t p) terms in
+    let gave = c.in_ok-receipt.ensures ∙ ap (λ t. answer t p) terms in
     let a = accepted L s p _ (sym gave) in
     let room = roomy _ _ a.roomy in
     record {
@@ -42,10 +42,10 @@ returns g c =
     let s = state_of g.D.ChunkDecoder.readings g.D.ChunkDecoder.allowance c.args.self.now c.args.output.now c.args.scratch.now in
     let p : Push = record { offset = c.args.offset; selection = Bitmap c.args.window } in
     let terms : c.terms-terms.result ≡ terms_of L s = c.terms-terms.ensures in
-    let gave = c.in-ok-receipt.ensures ∙ ap (λ t. answer t p) terms in
+    let gave = c.in_ok-receipt.ensures ∙ ap (λ t. answer t p) terms in
     let a = accepted L s p _ (sym gave) in
     let same = places_window c.args.offset c.args.window in
-    let after = c.serve-bitmap.new.source in
-    let h = storing (g.D.ChunkDecoder.readings after) (g.D.ChunkDecoder.allowance after) c.serve-bitmap.new.output c.serve-bitmap.new.scratch in
-    let done : h ≡ serving L (store_of s) s.written (places p) = c.serve-bitmap.ensures ∙ ap (serving L (store_of s) s.written) (sym same) in
-    record { value = gave; after = served_by L s (places p) h c.in-ok-receipt.receipt done a.gives ∙ sym a.after }
+    let after = c.serve_bitmap.new.source in
+    let h = storing (g.D.ChunkDecoder.readings after) (g.D.ChunkDecoder.allowance after) c.serve_bitmap.new.output c.serve_bitmap.new.scratch in
+    let done : h ≡ serving L (store_of s) s.written (places p) = c.serve_bitmap.ensures ∙ ap (serving L (store_of s) s.written) (sym same) in
+    record { value = gave; after = served_by L s (places p) h c.in_ok-receipt.receipt done a.gives ∙ sym a.after }

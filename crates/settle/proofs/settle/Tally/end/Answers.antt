@@ -10,5 +10,5 @@ pub returns-in-None : goal.returns-in-None
 returns-in-None c = λ ps h.
     let t = c.args.terms.now in
     let none = h.beyond ∙ ap beyond_fault c.in-None.is in
-    let all = ap (λ p. c.args.self.fee + p) c.chunk-price.ensures ∙ tallied_fee t c.args.self ps h none in
+    let all = ap (λ p. c.args.self.fee + p) c.chunk_price.ensures ∙ tallied_fee t c.args.self ps h none in
     ap Ok all ∙ ok_answered (first (past_source t.chunks) ps) (fee t ps) none
