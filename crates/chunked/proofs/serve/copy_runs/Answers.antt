@@ -13,7 +13,7 @@ use Rattle.chunked.proofs.serve.copy_runs.Goals as goal
 pub cut_run-piece-requires : goal.cut_run-piece-requires
 cut_run-piece-requires g c =
     let runs = c.args.runs.now in
-    let i = c.loop-run.run_index in
+    let i = c.loop-run.run-index in
     let offset = c.args.offset in
     let lo = c.args.lo in
     let hi = c.args.hi in
@@ -25,7 +25,7 @@ cut_run-piece-requires g c =
 pub overflow_sub-n : goal.overflow_sub-n
 overflow_sub-n g c =
     let runs = c.args.runs.now in
-    let i = c.loop-run.run_index in
+    let i = c.loop-run.run-index in
     let offset = c.args.offset in
     let lo = c.args.lo in
     let hi = c.args.hi in
@@ -48,7 +48,7 @@ overflow_sub-n g c =
 pub overflow_sub-piece : goal.overflow_sub-piece
 overflow_sub-piece g c =
     let runs = c.args.runs.now in
-    let i = c.loop-run.run_index in
+    let i = c.loop-run.run-index in
     let offset = c.args.offset in
     let lo = c.args.lo in
     let hi = c.args.hi in
@@ -71,7 +71,7 @@ overflow_sub-piece g c =
 pub offset_bounds-dst-at : goal.offset_bounds-dst-at
 offset_bounds-dst-at g c =
     let runs = c.args.runs.now in
-    let i = c.loop-run.run_index in
+    let i = c.loop-run.run-index in
     let offset = c.args.offset in
     let lo = c.args.lo in
     let hi = c.args.hi in
@@ -94,7 +94,7 @@ offset_bounds-dst-at g c =
 pub slice_bounds-copy_part-count : goal.slice_bounds-copy_part-count
 slice_bounds-copy_part-count g c =
     let runs = c.args.runs.now in
-    let i = c.loop-run.run_index in
+    let i = c.loop-run.run-index in
     let offset = c.args.offset in
     let lo = c.args.lo in
     let hi = c.args.hi in
@@ -117,7 +117,7 @@ slice_bounds-copy_part-count g c =
 pub slice_bounds-copy_part-start : goal.slice_bounds-copy_part-start
 slice_bounds-copy_part-start g c =
     let runs = c.args.runs.now in
-    let i = c.loop-run.run_index in
+    let i = c.loop-run.run-index in
     let offset = c.args.offset in
     let lo = c.args.lo in
     let hi = c.args.hi in
@@ -140,7 +140,7 @@ slice_bounds-copy_part-start g c =
 pub overflow_add-at : goal.overflow_add-at
 overflow_add-at g c =
     let runs = c.args.runs.now in
-    let i = c.loop-run.run_index in
+    let i = c.loop-run.run-index in
     let offset = c.args.offset in
     let lo = c.args.lo in
     let hi = c.args.hi in
@@ -163,7 +163,7 @@ overflow_add-at g c =
 pub copy_part-requires : goal.copy_part-requires
 copy_part-requires g c =
     let runs = c.args.runs.now in
-    let i = c.loop-run.run_index in
+    let i = c.loop-run.run-index in
     let offset = c.args.offset in
     let lo = c.args.lo in
     let hi = c.args.hi in
@@ -188,7 +188,7 @@ copy_part-requires g c =
 pub loop-run-preserved : goal.loop-run-preserved
 loop-run-preserved g c =
     let runs = c.args.runs.now in
-    let i = c.loop-run.run_index in
+    let i = c.loop-run.run-index in
     let offset = c.args.offset in
     let lo = c.args.lo in
     let hi = c.args.hi in
@@ -224,4 +224,4 @@ loop-run-preserved g c =
     )
 
 pub returns : goal.returns
-returns g c = c.loop-run.invariant.1 ∙ ap (λ rs. splice c.args.dst.now 0 (gather c.args.src.now (map (shifted 0 c.args.base) (in_span c.args.offset c.args.lo c.args.hi rs)))) (take_all c.loop-run.run_index c.args.runs.now c.loop-run-test.false)
+returns g c = c.loop-run.invariant.1 ∙ ap (λ rs. splice c.args.dst.now 0 (gather c.args.src.now (map (shifted 0 c.args.base) (in_span c.args.offset c.args.lo c.args.hi rs)))) (take_all c.loop-run.run-index c.args.runs.now c.loop-run-test.false)

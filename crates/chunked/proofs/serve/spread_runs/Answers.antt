@@ -13,7 +13,7 @@ use Rattle.chunked.proofs.serve.spread_runs.Goals as goal
 pub cut_run-piece-requires : goal.cut_run-piece-requires
 cut_run-piece-requires c =
     let runs = c.args.runs.now in
-    let i = c.loop-run.run_index in
+    let i = c.loop-run.run-index in
     let offset = c.args.offset in
     let lo = c.args.lo in
     let hi = c.args.hi in
@@ -25,7 +25,7 @@ cut_run-piece-requires c =
 pub overflow_sub-n : goal.overflow_sub-n
 overflow_sub-n c =
     let runs = c.args.runs.now in
-    let i = c.loop-run.run_index in
+    let i = c.loop-run.run-index in
     let offset = c.args.offset in
     let lo = c.args.lo in
     let hi = c.args.hi in
@@ -48,7 +48,7 @@ overflow_sub-n c =
 pub overflow_add-at : goal.overflow_add-at
 overflow_add-at c =
     let runs = c.args.runs.now in
-    let i = c.loop-run.run_index in
+    let i = c.loop-run.run-index in
     let offset = c.args.offset in
     let lo = c.args.lo in
     let hi = c.args.hi in
@@ -71,7 +71,7 @@ overflow_add-at c =
 pub offset_bounds-out-at : goal.offset_bounds-out-at
 offset_bounds-out-at c =
     let runs = c.args.runs.now in
-    let i = c.loop-run.run_index in
+    let i = c.loop-run.run-index in
     let offset = c.args.offset in
     let lo = c.args.lo in
     let hi = c.args.hi in
@@ -94,7 +94,7 @@ offset_bounds-out-at c =
 pub slice_bounds-fill_counting-end : goal.slice_bounds-fill_counting-end
 slice_bounds-fill_counting-end c =
     let runs = c.args.runs.now in
-    let i = c.loop-run.run_index in
+    let i = c.loop-run.run-index in
     let offset = c.args.offset in
     let lo = c.args.lo in
     let hi = c.args.hi in
@@ -117,7 +117,7 @@ slice_bounds-fill_counting-end c =
 pub overflow_sub-piece : goal.overflow_sub-piece
 overflow_sub-piece c =
     let runs = c.args.runs.now in
-    let i = c.loop-run.run_index in
+    let i = c.loop-run.run-index in
     let offset = c.args.offset in
     let lo = c.args.lo in
     let hi = c.args.hi in
@@ -140,7 +140,7 @@ overflow_sub-piece c =
 pub overflow_add-at-in-loop-run : goal.overflow_add-at-in-loop-run
 overflow_add-at-in-loop-run c =
     let runs = c.args.runs.now in
-    let i = c.loop-run.run_index in
+    let i = c.loop-run.run-index in
     let offset = c.args.offset in
     let lo = c.args.lo in
     let hi = c.args.hi in
@@ -163,7 +163,7 @@ overflow_add-at-in-loop-run c =
 pub loop-run-preserved : goal.loop-run-preserved
 loop-run-preserved c =
     let runs = c.args.runs.now in
-    let i = c.loop-run.run_index in
+    let i = c.loop-run.run-index in
     let offset = c.args.offset in
     let lo = c.args.lo in
     let hi = c.args.hi in
@@ -197,4 +197,4 @@ loop-run-preserved c =
     )
 
 pub returns : goal.returns
-returns c = c.loop-run.invariant.1 ∙ ap (λ rs. splice c.args.out.now 0 (map (shifted 0 c.args.base) (in_span c.args.offset c.args.lo c.args.hi rs))) (take_all c.loop-run.run_index c.args.runs.now c.loop-run-test.false)
+returns c = c.loop-run.invariant.1 ∙ ap (λ rs. splice c.args.out.now 0 (map (shifted 0 c.args.base) (in_span c.args.offset c.args.lo c.args.hi rs))) (take_all c.loop-run.run-index c.args.runs.now c.loop-run-test.false)
