@@ -1,6 +1,6 @@
 -- How far a walk over runs has come.
 use Rattle.std.proofs.Common.{◌≡◌, ℕ, zero, suc, ◌+◌, ◌-◌, ◌*◌, ◌/◌, ◌<◌, ◌≤◌, min, max, List, [], ◌∷◌, ◌++◌, length, get_or, take, drop, sym, ap, ◌∙◌, ap₂, ⊎_elim, arith}
-use Rattle.std.specs.List.{range_with_len, between, flat_map, AllByRecursion as All}
+use Rattle.std.specs.List.{range_with_len, between, flat_map, AllByRecursion}
 use Rattle.std.proofs.lemmas.List.Edits.{get_or-between, length-between}
 use Rattle.std.proofs.ByRecursion.{All-from_get_or, All-get_or}
 use Rattle.std.proofs.lemmas.Slice.{between_to_end}
@@ -58,7 +58,7 @@ module _ (offset : ℕ) (runs : List Run) (up : RunsRise 0 16777216 runs) (small
         (omega arith, read ∙ omega arith)
 
     -- the part below the end of the next place's chunk
-    module _ (c n after : ℕ) (chunk : c ≡ max ((get_or runs next no_run).start + offset) resume / 1024) (count : n ≡ length (in_span offset resume ((c + 1) * 1024) (drop next runs))) (order : (next ≤ after) × (after ≤ length runs)) (done : All (EndsBy offset ((c + 1) * 1024)) (between next after runs)) where
+    module _ (c n after : ℕ) (chunk : c ≡ max ((get_or runs next no_run).start + offset) resume / 1024) (count : n ≡ length (in_span offset resume ((c + 1) * 1024) (drop next runs))) (order : (next ≤ after) × (after ≤ length runs)) (done : AllByRecursion (EndsBy offset ((c + 1) * 1024)) (between next after runs)) where
       bounds : (resume ≤ (c + 1) * 1024) × ((c + 1) * 1024 ≤ 16778240)
       bounds =
           let at-r = runs_at 0 16777216 runs next up here in
@@ -138,7 +138,7 @@ module _ (offset : ℕ) (runs : List Run) (up : RunsRise 0 16777216 runs) (small
         pub part_order : (next ≤ last) × (last ≤ length runs)
         part_order = let o = order.0 in let p = order.1 in (omega arith, omega arith)
 
-        pub part_spans : All (Spans offset resume ((c + 1) * 1024) (c * 1024)) (between next last runs)
+        pub part_spans : AllByRecursion (Spans offset resume ((c + 1) * 1024) (c * 1024)) (between next last runs)
         part_spans = All-from_get_or (Spans offset resume ((c + 1) * 1024) (c * 1024)) (between next last runs) no_run each
           where
             each : (m : ℕ) → m < length (between next last runs) → Spans offset resume ((c + 1) * 1024) (c * 1024) (get_or (between next last runs) m no_run)

@@ -1,6 +1,6 @@
 -- Ascending places, cut where a chunk ends.
 use Rattle.std.proofs.Common.{◌≡◌, ℕ, zero, suc, ◌+◌, ◌-◌, ◌*◌, ◌/◌, ◌<◌, ◌≤◌, Bool, true, false, cond, ◌&&◌, ◌||◌, eqb, ◌⊎◌, List, [], ◌∷◌, ◌++◌, length, get_or, take, drop, Some, None, filter, Option, sym, refl, ap, ◌∙◌, subst, ap₂, inl, inr, ⊎_elim, add_comm, arith, take-add}
-use Rattle.std.specs.List.{range_with_len, between, AllByRecursion as All}
+use Rattle.std.specs.List.{range_with_len, between, AllByRecursion}
 use Rattle.std.proofs.lemmas.List.{drop_at, drop-drop, get_or_append_left, get_or-append_right, get_or-take, length-append, length-take-le, take-append-drop, take_at, get_or-map, length-map, take-map, drop-map}
 use Rattle.std.proofs.lemmas.List.Edits.{get_or-between, length-between}
 use Rattle.std.proofs.lemmas.List.Elements.{filter-append}
@@ -27,8 +27,8 @@ Parted ps i = (k : ℕ) → k < i → i < length ps → get_or ps k 0 / 1024 < g
 pub record Cut (ps : List ℕ) (i j c : ℕ) : Type 0 where
   pub more : i < j
   pub within : j ≤ length ps
-  pub before : All (λ p. p / 1024 < c) (take i ps)
-  pub here : All (λ p. p / 1024 ≡ c) (between i j ps)
+  pub before : AllByRecursion (λ p. p / 1024 < c) (take i ps)
+  pub here : AllByRecursion (λ p. p / 1024 ≡ c) (between i j ps)
   pub low : (k : ℕ) → i ≤ k → k < j → 1024 * c ≤ get_or ps k 0
   pub high : (k : ℕ) → i ≤ k → k < j → get_or ps k 0 < 1024 * c + 1024
   pub parted : Parted ps j
@@ -101,7 +101,7 @@ module _ {X : Type 0} (ps : List X) (i j : ℕ) (up : i ≤ j) where
       sym (take-append-drop (j - i) (drop i ps)) ∙ ap (λ xs. between i j ps ++ xs) (drop-drop (j - i) i ps ∙ ap (λ n. drop n ps) on)
 
 -- places of one chunk
-module _ (c : ℕ) (ys : List ℕ) (here : All (λ p. p / 1024 ≡ c) ys) where
+module _ (c : ℕ) (ys : List ℕ) (here : AllByRecursion (λ p. p / 1024 ≡ c) ys) where
   -- how many of them a chunk has
   count_here : (d : ℕ) → length (chunk_places ys d) ≡ cond (eqb c d) (length ys) 0
   count_here d = go (cases_eq c d)
@@ -121,7 +121,7 @@ module _ (c : ℕ) (ys : List ℕ) (here : All (λ p. p / 1024 ≡ c) ys) where
       priced d = grind (arith, nat_tests)
 
   -- places before them
-  module _ (xs : List ℕ) (earlier : All (λ p. p / 1024 < c) xs) where
+  module _ (xs : List ℕ) (earlier : AllByRecursion (λ p. p / 1024 < c) xs) where
     none_yet : (d : ℕ) → c ≤ d → chunk_places xs d ≡ []
     none_yet d l = none_kept (in_chunk d) xs (All-weaker (λ p. p / 1024 < c) (λ p. in_chunk d p ≡ false) (λ p h. ne_eqb (p / 1024) d (λ e. omega arith)) xs earlier)
 
@@ -264,7 +264,7 @@ cut_rises lo hi ps i j c up k =
         rw (a, b') s
 
 -- a list that is put together of places before a chunk, of the chunk, and past it
-module _ (xs ys zs : List ℕ) (c : ℕ) (before : All (λ p. p / 1024 < c) xs) (here : All (λ p. p / 1024 ≡ c) ys) (past : All (λ p. c < p / 1024) zs) (some : 0 < length ys) where
+module _ (xs ys zs : List ℕ) (c : ℕ) (before : AllByRecursion (λ p. p / 1024 < c) xs) (here : AllByRecursion (λ p. p / 1024 ≡ c) ys) (past : AllByRecursion (λ p. c < p / 1024) zs) (some : 0 < length ys) where
   drop_front : drop (length xs) (xs ++ (ys ++ zs)) ≡ ys ++ zs
   drop_front = drop_at xs (ys ++ zs) (length xs) refl
 
@@ -285,8 +285,8 @@ module _ (xs ys zs : List ℕ) (c : ℕ) (before : All (λ p. p / 1024 < c) xs) 
   cut_of = record {
     more = omega arith;
     within = let n = all_long in omega arith;
-    before = subst (All (λ p. p / 1024 < c)) (sym (take_at xs (ys ++ zs) (length xs) refl)) before;
-    here = subst (All (λ p. p / 1024 ≡ c)) (sym part_of) here;
+    before = subst (AllByRecursion (λ p. p / 1024 < c)) (sym (take_at xs (ys ++ zs) (length xs) refl)) before;
+    here = subst (AllByRecursion (λ p. p / 1024 ≡ c)) (sym part_of) here;
     low = λ k a b. let e = in_part k a b in omega arith;
     high = λ k a b. let e = in_part k a b in omega arith;
     parted = λ k a b. let last = at_end b in let e = up_to k a (cases_lt k (length xs)) in omega arith;

@@ -1,6 +1,6 @@
 -- Serving places chunk by chunk.
 use Rattle.std.proofs.Common.{◌≡◌, ℕ, zero, suc, ◌+◌, ◌-◌, ◌*◌, ◌/◌, ◌<◌, ◌≤◌, Bool, true, false, ltb, List, [], ◌∷◌, ◌++◌, map, length, take, drop, Some, None, filter, Option, sym, refl, ap, ◌∙◌, subst, ap₂, arith}
-use Rattle.std.specs.List.{between, AllByRecursion as All, range_with_len}
+use Rattle.std.specs.List.{between, AllByRecursion, range_with_len}
 use Rattle.std.proofs.ByRecursion.{All-get_or, All-map, All-take, All-weaker}
 use Rattle.std.proofs.lemmas.List.{length-drop, length-map, length-take, length-take-le, take_all, take_at}
 use Rattle.std.proofs.lemmas.List.Edits.{length-between}
@@ -26,7 +26,7 @@ use Rattle.chunked.proofs.Fetching.{Fetch, splice_part}
 use Rattle.chunked.proofs.Cuts.{Cut, Parted, cut_rises, fee_append, fee_cut, fee_one, fee_part, last_append, last_one, take_cut}
 
 -- places in chunks of the source are places of the source
-pub places_inside : {T : Type 0} (xs : List T) (ps : List ℕ) → Whole xs → All (λ p. p / 1024 < chunks_of xs) ps → All (λ p. p < length xs) ps
+pub places_inside : {T : Type 0} (xs : List T) (ps : List ℕ) → Whole xs → AllByRecursion (λ p. p / 1024 < chunks_of xs) ps → AllByRecursion (λ p. p < length xs) ps
 places_inside xs ps whole h = let n = whole.0 in All-weaker (λ p. p / 1024 < chunks_of xs) (λ p. p < length xs) (λ p l. omega arith) ps h
 
 -- what is laid over scratch last hides what was laid there before
@@ -49,7 +49,7 @@ same_store : {T : Type 0} {xs ys : List T} {a b : ℕ} {o p q r : List T} → xs
 same_store h₁ h₂ h₃ h₄ = cc
 
 -- places of earlier chunks, and then those of one chunk
-module _ {T : Type 0} (L : ℕ) (s : Store T) (pos c : ℕ) (xs ys : List ℕ) (earlier : All (λ p. p / 1024 < c) xs) (here : All (λ p. p / 1024 ≡ c) ys) (chunk : c < chunks_of s.readings) (whole : Whole s.readings) (room : pos ≤ length s.output) where
+module _ {T : Type 0} (L : ℕ) (s : Store T) (pos c : ℕ) (xs ys : List ℕ) (earlier : AllByRecursion (λ p. p / 1024 < c) xs) (here : AllByRecursion (λ p. p / 1024 ≡ c) ys) (chunk : c < chunks_of s.readings) (whole : Whole s.readings) (room : pos ≤ length s.output) where
   pub serving_append : serving L (serving L s pos xs) (pos + length xs) ys ≡ serving L s pos (xs ++ ys)
   unfolding serving
   serving_append =
@@ -84,7 +84,7 @@ pub record Leaves {T : Type 0} (L : ℕ) (s : Store T) (pos c : ℕ) (ys : List 
 
 -- ascending places of one chunk
 module _ {T : Type 0} (L : ℕ) (s : Store T) (pos c : ℕ) (ys : List ℕ) (ok : Servable (offered L s pos) c ys) where
-  pub part_here : All (λ p. p / 1024 ≡ c) ys
+  pub part_here : AllByRecursion (λ p. p / 1024 ≡ c) ys
   part_here = All-weaker (λ p. (1024 * c ≤ p) × (p < 1024 * c + 1024)) (λ p. p / 1024 ≡ c) (λ p h. omega arith) ys (rising_all (1024 * c) (1024 * c + 1024) ys ok.rising)
 
   pub part_most : length ys ≤ 1024
@@ -127,14 +127,14 @@ module _ {T : Type 0} (L : ℕ) (s : Store T) (pos c offset : ℕ) (is : List �
   count : length (at offset is) ≡ length is
   count = length-map is (moved offset)
 
-  pub inside : (m : ℕ) → 1024 ≤ m → All (Within offset (c * 1024) m) is
+  pub inside : (m : ℕ) → 1024 ≤ m → AllByRecursion (Within offset (c * 1024) m) is
   inside m h =
       let chunk = ok.chunk in
       let few = whole.1 in
       All-weaker (λ i. (1024 * c ≤ moved offset i) × (moved offset i < 1024 * c + 1024)) (Within offset (c * 1024) m) (λ i l. record { fits = omega arith; above = omega arith; below = omega arith }) is
       (all_of_map (λ p. (1024 * c ≤ p) × (p < 1024 * c + 1024)) (moved offset) is (rising_all (1024 * c) (1024 * c + 1024) (at offset is) ok.rising))
 
-  pub below : All (λ j. j < 1024) (map (shifted offset (c * 1024)) is)
+  pub below : AllByRecursion (λ j. j < 1024) (map (shifted offset (c * 1024)) is)
   below = All-map (λ j. j < 1024) (shifted offset (c * 1024)) is (All-weaker (Within offset (c * 1024) 1024) (λ i. shifted offset (c * 1024) i < 1024) (λ i h. h.below) is (inside 1024 (omega arith)))
 
   pub back : map (place_in c) (map (shifted offset (c * 1024)) is) ≡ at offset is
@@ -199,7 +199,7 @@ pub record Serves {T : Type 0} (L : ℕ) (s t : Store T) (pos : ℕ) (ps : List 
 
 -- places that nothing stands against
 pub record Grants (t : Terms) (ps : List ℕ) : Type 0 where
-  pub inside : All (λ p. p / 1024 < t.chunks) ps
+  pub inside : AllByRecursion (λ p. p / 1024 < t.chunks) ps
   pub fits : length ps ≤ t.free
   pub payable : fee t ps ≤ t.left
 
@@ -228,7 +228,7 @@ serving_none L s pos =
     never (suc n) a = let no' : compacted L 0 ≡ false = grind (arith, nat_tests) in rw no' (never n (a + 1))
 
 module _ {T : Type 0} (L : ℕ) (s t : Store T) (pos : ℕ) (ps : List ℕ) (i j c lo hi : ℕ) (h : Serves L s t pos ps i) (k : Cut ps i j c) (up : Rising lo hi ps) (ok : Grants (offered L s pos) ps) (whole : Whole s.readings) (room : 1024 ≤ length s.scratch) where
-  first_in : All (λ p. p / 1024 < chunks_of s.readings) (take i ps)
+  first_in : AllByRecursion (λ p. p / 1024 < chunks_of s.readings) (take i ps)
   first_in = All-take (λ p. p / 1024 < chunks_of s.readings) i ps ok.inside
 
   -- the cut's chunk is one of the source's

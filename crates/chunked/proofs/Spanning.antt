@@ -1,7 +1,7 @@
 -- The places of runs, cut at bounds.
 use Rattle.std.proofs.Common.{◌≡◌, ℕ, zero, suc, ◌+◌, ◌-◌, ◌<◌, ◌≤◌, ◌⊎◌, List, [], ◌∷◌, ◌++◌, map, length, get_or, take, drop, sym, refl, ap, ◌∙◌, subst, ap₂, inl, inr, arith}
 use borrow.Rule.Slice.PartMut.{put_mid}
-use Rattle.std.specs.List.{range_with_len, between, flat_map, AllByRecursion as All}
+use Rattle.std.specs.List.{range_with_len, between, flat_map, AllByRecursion}
 use Rattle.std.proofs.lemmas.List.FromFn.{length-range_with_len}
 use Rattle.std.proofs.ByRecursion.{All-append, All-map, All-weaker}
 use Rattle.std.proofs.lemmas.List.{append_assoc, append-nil, drop-drop, length-append, map-append, take-append-drop, take_more, take_rest}
@@ -42,7 +42,7 @@ span_above offset lo hi a b (r ∷ rs) up h =
     ap₂ (λ xs ys. xs ++ ys) (counting_none (span_start offset lo hi r) (span_end offset hi r - span_start offset lo hi r) none) (span_above offset lo hi r.«end» b rs up.3 (omega arith))
 
 -- runs that end at the bound have no place from it on
-pub span_below : (offset lo hi : ℕ) (rs : List Run) → lo ≤ hi → All (λ r. r.«end» + offset ≤ lo) rs → in_span offset lo hi rs ≡ []
+pub span_below : (offset lo hi : ℕ) (rs : List Run) → lo ≤ hi → AllByRecursion (λ r. r.«end» + offset ≤ lo) rs → in_span offset lo hi rs ≡ []
 span_below offset lo hi [] l h = refl
 span_below offset lo hi (r ∷ rs) l h =
     let e = h.0 in
@@ -96,7 +96,7 @@ span_all offset hi a b (r ∷ rs) up h =
     ∙ sym (map-append (moved offset) (range r) (flat_map range rs))
 
 -- they lie within the bounds
-pub span_within : (offset lo hi : ℕ) (rs : List Run) → lo ≤ hi → All (λ p. (lo ≤ p) × (p < hi)) (in_span offset lo hi rs)
+pub span_within : (offset lo hi : ℕ) (rs : List Run) → lo ≤ hi → AllByRecursion (λ p. (lo ≤ p) × (p < hi)) (in_span offset lo hi rs)
 span_within offset lo hi [] l = tt
 span_within offset lo hi (r ∷ rs) l =
     All-append (λ p. (lo ≤ p) × (p < hi)) (spanned offset lo hi r) (in_span offset lo hi rs)
@@ -229,10 +229,10 @@ put_rest_more out vs ws cur part at e c p =
     ∙ splice_splice out 0 at vs ws e (omega arith)
 
 -- less a base they are places of what lies from there on
-pub span_inside : (offset lo hi base n : ℕ) (rs : List Run) → All (Spans offset lo hi base) rs → hi ≤ base + n → All (λ p. p < n) (map (shifted 0 base) (in_span offset lo hi rs))
+pub span_inside : (offset lo hi base n : ℕ) (rs : List Run) → AllByRecursion (Spans offset lo hi base) rs → hi ≤ base + n → AllByRecursion (λ p. p < n) (map (shifted 0 base) (in_span offset lo hi rs))
 span_inside offset lo hi base n rs h l = All-map (λ p. p < n) (shifted 0 base) (in_span offset lo hi rs) (each rs h)
   where
-    each : (rs : List Run) → All (Spans offset lo hi base) rs → All (λ p. shifted 0 base p < n) (in_span offset lo hi rs)
+    each : (rs : List Run) → AllByRecursion (Spans offset lo hi base) rs → AllByRecursion (λ p. shifted 0 base p < n) (in_span offset lo hi rs)
     each [] h = tt
     each (r ∷ rs) h =
         let ordered = h.0.ordered in

@@ -1,6 +1,6 @@
 -- The places of a bitmap, cut where a chunk ends, and the words that were loaded from it.
 use Rattle.std.proofs.Common.{◌≡◌, ℕ, ◌+◌, ◌-◌, ◌*◌, ◌/◌, ◌%◌, ◌<◌, ◌≤◌, min, Bool, false, List, ◌++◌, map, length, get_or, filter, sym, ap, ◌∙◌, subst, ap₂, ⊎_elim, arith}
-use Rattle.std.specs.List.{range_with_len, between, AllByRecursion as All}
+use Rattle.std.specs.List.{range_with_len, between, AllByRecursion}
 use Rattle.std.proofs.ByRecursion.{all_kept_by, All-map, All-weaker}
 use Rattle.std.proofs.lemmas.List.{get_or_past, length-map, map-append}
 use Rattle.std.proofs.lemmas.List.FromFn.{fill_by_all, get_or-range_with_len, length-range_with_len}
@@ -29,10 +29,10 @@ module _ (q : ℕ → Bool) (offset n c : ℕ) (small : offset ≤ 1024) where
       ∙ map-append (moved offset) (kept_between_places q 0 (boundary offset n c)) (kept_between_places q (boundary offset n c) (boundary offset n (c + 1)) ++ kept_between_places q (boundary offset n (c + 1)) n)
       ∙ ap (λ xs. at offset (kept_between_places q 0 (boundary offset n c)) ++ xs) (map-append (moved offset) (kept_between_places q (boundary offset n c) (boundary offset n (c + 1))) (kept_between_places q (boundary offset n (c + 1)) n))
 
-  before : All (λ p. p / 1024 < c) (at offset (kept_between_places q 0 (boundary offset n c)))
+  before : AllByRecursion (λ p. p / 1024 < c) (at offset (kept_between_places q 0 (boundary offset n c)))
   before = All-map (λ p. p / 1024 < c) (moved offset) (kept_between_places q 0 (boundary offset n c)) (All-weaker (λ x. (0 ≤ x) × (x < boundary offset n c)) (λ x. moved offset x / 1024 < c) (λ x h. omega arith) (kept_between_places q 0 (boundary offset n c)) (kept_within q 0 (boundary offset n c)))
 
-  past : All (λ p. c < p / 1024) (at offset (kept_between_places q (boundary offset n (c + 1)) n))
+  past : AllByRecursion (λ p. c < p / 1024) (at offset (kept_between_places q (boundary offset n (c + 1)) n))
   past = All-map (λ p. c < p / 1024) (moved offset) (kept_between_places q (boundary offset n (c + 1)) n) (All-weaker (λ x. (boundary offset n (c + 1) ≤ x) × (x < n)) (λ x. c < moved offset x / 1024) (λ x h. omega arith) (kept_between_places q (boundary offset n (c + 1)) n) (kept_within q (boundary offset n (c + 1)) n))
 
   module _ (k m : ℕ) (done : k ≡ length (kept_between_places q 0 (boundary offset n c))) (count : m ≡ length (kept_between_places q (boundary offset n c) (boundary offset n (c + 1)))) (some : 0 < m) where

@@ -1,6 +1,6 @@
 //! Fetches that nothing stands against any more.
 ghost use Rattle.std.specs.Prelude.{◌≡◌, ℕ, ◌+◌, ◌-◌, ◌*◌, ◌^◌, ◌<◌, ◌≤◌, map, length, drop, None, filter, slice_index, slice_index_or};
-ghost use Rattle.std.specs.List.{range_with_len, between, flat_map, AllByRecursion as All};
+ghost use Rattle.std.specs.List.{range_with_len, between, flat_map, AllByRecursion};
 ghost use Rattle.selection.specs.Selected.{Rising, RunsRise, no_run, range, window_bit, window_from, window_positions};
 ghost use Rattle.kernels.specs.Masks.{Covers, mask_positions};
 ghost use Rattle.kernels.specs.Moved.{Within, gather, shifted, limit_at_width, splice};
@@ -51,7 +51,7 @@ pub(crate) fn fetch_indices<D: ChunkDecoder>(
 /// Writes each index moved by `up` and then `down` to the first places of `out`.
 pub(crate) fn shift_all(indices: &[u64], up: u64, down: u64, out: &mut [u64])
     requires room { length indices.now ≤ length out.old }
-    requires inside { All (Within up down 1024) indices.now }
+    requires inside { AllByRecursion (Within up down 1024) indices.now }
     ensures { out.new ≡ splice out.old 0 (map (shifted up down) indices.now) }
 {
     for k in 0..indices.len() {
@@ -164,7 +164,7 @@ fn runs_below(runs: &[Run], from: usize, offset: u64, lo: u64, hi: u64) -> Part
     requires order { lo ≤ hi }
     ensures count { result.count ≡ length (in_span offset lo hi (drop from runs.now)) }
     ensures next { (from ≤ result.next) × (result.next ≤ length runs.now) }
-    ensures done { All (EndsBy offset hi) (between from result.next runs.now) }
+    ensures done { AllByRecursion (EndsBy offset hi) (between from result.next runs.now) }
     ensures past { result.next < length runs.now → hi < (slice_index_or runs.now result.next no_run).«end» + offset }
 {
     let mut count = 0;
@@ -194,7 +194,7 @@ fn fill_counting(out: &mut [u64], from: u64)
 
 /// Writes the places of runs within bounds, less `base`, to the first places of `out`.
 fn spread_runs(runs: &[Run], offset: u64, lo: u64, hi: u64, base: u64, out: &mut [u64])
-    requires runs { All (Spans offset lo hi base) runs.now }
+    requires runs { AllByRecursion (Spans offset lo hi base) runs.now }
     requires bound { hi < 2 ^ 63 }
     requires room { length (in_span offset lo hi runs.now) ≤ length out.old }
     ensures { out.new ≡ splice out.old 0 (map (shifted 0 base) (in_span offset lo hi runs.now)) }
@@ -219,7 +219,7 @@ fn copy_runs<T: Copy>(
     base: u64,
     dst: &mut [T],
 )
-    requires runs { All (Spans offset lo hi base) runs.now }
+    requires runs { AllByRecursion (Spans offset lo hi base) runs.now }
     requires bound { hi < 2 ^ 63 }
     requires inside { hi ≤ base + length src.now }
     requires room { length (in_span offset lo hi runs.now) ≤ length dst.old }
@@ -248,7 +248,7 @@ pub(crate) fn serve_chunk_runs<D: ChunkDecoder>(
     scratch: &mut [D::Item],
 )
     requires servable { Servable (offered (limit_at_width D.Item.Element.bytes) (storing (D.ChunkDecoder.readings source.old) (D.ChunkDecoder.allowance source.old) output.old scratch.old) at) chunk (in_span offset lo ((chunk + 1) * 1024) runs.now) }
-    requires runs { All (Spans offset lo ((chunk + 1) * 1024) (chunk * 1024)) runs.now }
+    requires runs { AllByRecursion (Spans offset lo ((chunk + 1) * 1024) (chunk * 1024)) runs.now }
     requires count { n ≡ length (in_span offset lo ((chunk + 1) * 1024) runs.now) }
     ensures { storing (D.ChunkDecoder.readings source.new) (D.ChunkDecoder.allowance source.new) output.new scratch.new ≡ serving (limit_at_width D.Item.Element.bytes) (storing (D.ChunkDecoder.readings source.old) (D.ChunkDecoder.allowance source.old) output.old scratch.old) at (in_span offset lo ((chunk + 1) * 1024) runs.now) }
 {

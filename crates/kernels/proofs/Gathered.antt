@@ -1,13 +1,13 @@
 -- Values at places, and what a write leaves.
 use Rattle.std.proofs.Common.{◌≡◌, ℕ, zero, suc, ◌+◌, ◌-◌, ◌*◌, ◌<◌, ◌≤◌, List, [], ◌∷◌, ◌++◌, map, length, get_or, take, drop, set, sym, refl, ap, ◌∙◌, ap₂, arith}
-use Rattle.std.specs.List.{range_with_len, flat_map, AllByRecursion as All}
+use Rattle.std.specs.List.{range_with_len, flat_map, AllByRecursion}
 use Rattle.std.proofs.lemmas.List.FromFn.{get_or-map-range_with_len, length-map-range_with_len}
 use Rattle.std.proofs.ByRecursion.{All-get_or, All-map, All-take}
 use Rattle.std.proofs.lemmas.List.{append-nil, drop-append-le, drop-take, take-append-drop, take-append-le, take-take, length-map, length-take-le, map_more, take_at, drop_at, append_assoc, drop-drop, drop_more, take_more, set_at, length-take, length-drop, length-append}
 use Rattle.kernels.specs.Moved.{value_at, gather, shifted, splice}
 
 -- each place inside gives one value
-pub length_gather : {T : Type 0} (xs : List T) (ps : List ℕ) → All (λ p. p < length xs) ps → length (gather xs ps) ≡ length ps
+pub length_gather : {T : Type 0} (xs : List T) (ps : List ℕ) → AllByRecursion (λ p. p < length xs) ps → length (gather xs ps) ≡ length ps
 length_gather xs [] h = refl
 length_gather xs (p ∷ ps) h =
     let rest = length_gather xs ps h.1 in
@@ -28,7 +28,7 @@ drop_one (x ∷ []) rest k e = refl
 drop_one (x ∷ (y ∷ ys)) rest k e = absurd (omega arith)
 
 -- the value at a place of what was gathered
-pub value_at_gather : {T : Type 0} (vs : List T) (ps : List ℕ) (k : ℕ) → All (λ p. p < length vs) ps → k < length ps → value_at (gather vs ps) k ≡ value_at vs (get_or ps k 0)
+pub value_at_gather : {T : Type 0} (vs : List T) (ps : List ℕ) (k : ℕ) → AllByRecursion (λ p. p < length vs) ps → k < length ps → value_at (gather vs ps) k ≡ value_at vs (get_or ps k 0)
 value_at_gather vs [] k h l = absurd (omega arith)
 value_at_gather vs (p ∷ ps) zero h l =
     let one : length (value_at vs p) ≡ 1 = simp (length-take, length-drop) (omega arith) in
@@ -37,7 +37,7 @@ value_at_gather vs (p ∷ ps) (suc k) h l =
     let one : length (value_at vs p) ≡ 1 = simp (length-take, length-drop) (omega arith) in
     ap (take 1) (drop_one (value_at vs p) (gather vs ps) k one) ∙ value_at_gather vs ps k h.1 (omega arith)
 
-pub gather_gather : {T : Type 0} (vs : List T) (ps ks : List ℕ) → All (λ p. p < length vs) ps → All (λ k. k < length ps) ks → gather (gather vs ps) ks ≡ gather vs (map (λ r. get_or ps r 0) ks)
+pub gather_gather : {T : Type 0} (vs : List T) (ps ks : List ℕ) → AllByRecursion (λ p. p < length vs) ps → AllByRecursion (λ k. k < length ps) ks → gather (gather vs ps) ks ≡ gather vs (map (λ r. get_or ps r 0) ks)
 gather_gather vs ps [] h l = refl
 gather_gather vs ps (k ∷ ks) h l = rw (value_at_gather vs ps k h l.0, gather_gather vs ps ks h l.1) refl
 
@@ -82,7 +82,7 @@ splice_more xs at n vs y e h =
     ∙ ap (λ zs. take at xs ++ zs) (sym (append_assoc vs (y ∷ []) (drop (i + 1) xs)) ∙ ap (λ m. (vs ++ (y ∷ [])) ++ drop m xs) (sym next))
 
 -- one place more, read and written
-pub copy_more : {T : Type 0} (src out : List T) (f : ℕ → ℕ) (is : List ℕ) (k : ℕ) (y : T) → k < length is → k < length out → All (λ i. f i < length src) is → y ≡ get_or src (f (get_or is k 0)) y → set (splice out 0 (gather src (map f (take k is)))) k y ≡ splice out 0 (gather src (map f (take (k + 1) is)))
+pub copy_more : {T : Type 0} (src out : List T) (f : ℕ → ℕ) (is : List ℕ) (k : ℕ) (y : T) → k < length is → k < length out → AllByRecursion (λ i. f i < length src) is → y ≡ get_or src (f (get_or is k 0)) y → set (splice out 0 (gather src (map f (take k is)))) k y ≡ splice out 0 (gather src (map f (take (k + 1) is)))
 copy_more src out f is k y h l inside e =
     let place = f (get_or is k 0) in
     let within : place < length src = All-get_or (λ i. f i < length src) is k 0 h inside in
@@ -146,7 +146,7 @@ value_at_part xs out b n j h l =
     ∙ take-take 1 m (drop j zs) (omega arith)
     ∙ ap (take 1) (drop-drop j b xs)
 
-pub gather_part : {T : Type 0} (xs out : List T) (b n : ℕ) (js : List ℕ) → All (λ j. j < n) js → b + n ≤ length xs → gather (splice out 0 (take n (drop b xs))) js ≡ gather xs (map (λ j. b + j) js)
+pub gather_part : {T : Type 0} (xs out : List T) (b n : ℕ) (js : List ℕ) → AllByRecursion (λ j. j < n) js → b + n ≤ length xs → gather (splice out 0 (take n (drop b xs))) js ≡ gather xs (map (λ j. b + j) js)
 gather_part xs out b n [] h l = refl
 gather_part xs out b n (j ∷ js) h l = ap₂ (λ v vs. v ++ vs) (value_at_part xs out b n j h.0 l) (gather_part xs out b n js h.1 l)
 
@@ -158,7 +158,7 @@ value_at_take xs n p h =
     ap (λ k. take 1 (drop p (take k xs))) (sym on) ∙ ap (take 1) (drop-take p m xs) ∙ take-take 1 m (drop p xs) (omega arith)
 
 -- values of a part of a slice
-pub gather_slice : {T : Type 0} (xs : List T) (b n : ℕ) (js : List ℕ) → All (λ j. j < n) js → gather (take n (drop b xs)) js ≡ gather xs (map (shifted b 0) js)
+pub gather_slice : {T : Type 0} (xs : List T) (b n : ℕ) (js : List ℕ) → AllByRecursion (λ j. j < n) js → gather (take n (drop b xs)) js ≡ gather xs (map (shifted b 0) js)
 gather_slice xs b n [] h = refl
 gather_slice xs b n (j ∷ js) h =
     let e : b + j ≡ j + b - 0 = omega arith in
@@ -176,7 +176,7 @@ write_more f is out k h l =
     ∙ ap (splice out 0) (sym (map_more f is k 0 h))
 
 -- values made by their places
-pub gather_made : {T : Type 0} (f : ℕ → T) (n : ℕ) (ps : List ℕ) → All (λ p. p < n) ps → gather (map f (range_with_len 0 n)) ps ≡ map f ps
+pub gather_made : {T : Type 0} (f : ℕ → T) (n : ℕ) (ps : List ℕ) → AllByRecursion (λ p. p < n) ps → gather (map f (range_with_len 0 n)) ps ≡ map f ps
 gather_made f n [] h = refl
 gather_made f n (p ∷ ps) h =
     let inside : p < length (map f (range_with_len 0 n)) = let size = length-map-range_with_len f 0 n in let l = h.0 in omega arith in

@@ -5,7 +5,7 @@ use lib.Arith.{lt-one}
 use lib.Bits.{bit_and, and_step, and_self}
 use lib.Count.{count_trailing_zeros}
 use lib.Pow.{shr_le}
-use Rattle.std.specs.List.{range_with_len, AllByRecursion as All}
+use Rattle.std.specs.List.{range_with_len, AllByRecursion}
 use Rattle.std.proofs.lemmas.Nat.{field_of, mod-pow-add}
 use Rattle.std.proofs.lemmas.List.{append-nil}
 use Rattle.selection.specs.Selected.{bit_of}
@@ -178,7 +178,7 @@ all_bits (suc k) at =
     odd_bits k (2 ^ suc k - 1) at odd ∙ ap (λ v. at ∷ set_bits k v (at + 1)) half ∙ ap (λ ys. at ∷ ys) (all_bits k (at + 1))
 
 -- numbers one after another that all lie below n
-pub counting_inside : (n a k : ℕ) → All (λ p. p < n) (range_with_len a k) → 0 < k → a + k ≤ n
+pub counting_inside : (n a k : ℕ) → AllByRecursion (λ p. p < n) (range_with_len a k) → 0 < k → a + k ≤ n
 counting_inside n a zero h l = absurd (omega arith)
 counting_inside n a (suc zero) h l = omega arith
 counting_inside n a (suc (suc k)) h l = let r = counting_inside n (a + 1) (suc k) h.1 (omega arith) in omega arith

@@ -1,6 +1,6 @@
 -- Which positions a mask of words selects, and what a compaction leaves.
 use Rattle.std.specs.Prelude.{◌≡◌, ℕ, zero, suc, ◌+◌, ◌-◌, ◌*◌, ◌/◌, ◌%◌, ◌<◌, ◌≤◌, Bool, false, cond, ◌&&◌, List, [], ◌∷◌, ◌++◌, length, replicate, filter, ◌==◌, nat_lt, slice_index}
-use Rattle.std.specs.List.{range_with_len, AllByRecursion as All}
+use Rattle.std.specs.List.{range_with_len, AllByRecursion}
 use Rattle.selection.specs.Selected.{bit_of, window_bit}
 use Rattle.kernels.specs.declared.slice.MaskBits.{MaskBits}
 use Rattle.kernels.specs.declared.slice.MaskBits.TheVariants.{Words, Window}
@@ -34,7 +34,7 @@ pub record Covers (ws : List ℕ) (n : ℕ) : Type 0 where
 
 -- all numbers lie below n
 abbrev pub Inside : ℕ → List ℕ → Type 0
-Inside n ps = All (λ p. p < n) ps
+Inside n ps = AllByRecursion (λ p. p < n) ps
 
 -- the set bits among the low k of a number, ascending, where the lowest bit has a place
 unfoldable pub set_bits : ℕ → ℕ → ℕ → List ℕ

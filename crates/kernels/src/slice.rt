@@ -1,6 +1,6 @@
 //! Copies of the elements at some places of a slice.
 ghost use Rattle.std.specs.Prelude.{◌≡◌, ◌+◌, ◌<◌, ◌≤◌, map, length, take, drop};
-ghost use Rattle.std.specs.List.{AllByRecursion as All};
+ghost use Rattle.std.specs.List.{AllByRecursion};
 ghost use Rattle.kernels.specs.Moved.{Within, gather, shifted, splice};
 ghost use Rattle.kernels.specs.Masks.{Inside, Masks, WordAt, compacted, selected_by, set_bits, count_of_words};
 
@@ -39,7 +39,7 @@ impl MaskBits<'_> {
 /// Copies to the first places of `dst` what stands in `src` at `index + up - down`, for each index.
 pub fn copy_at<T: Copy>(src: &[T], indices: &[u64], up: u64, down: u64, dst: &mut [T])
     requires room { length indices.now ≤ length dst.old }
-    requires inside { All (Within up down (length src.now)) indices.now }
+    requires inside { AllByRecursion (Within up down (length src.now)) indices.now }
     ensures { dst.new ≡ splice dst.old 0 (gather src.now (map (shifted up down) indices.now)) }
 {
     for k in 0..indices.len() {

@@ -1,6 +1,6 @@
 -- Pushes that pick the same positions agree.
 use Rattle.std.proofs.Common.{◌≡◌, ℕ, ◌+◌, ◌≤◌, Bool, true, false, cond, not, List, [], ◌∷◌, map, length, take, is_some, Some, None, Ok, Err, filter, Option, sym, refl, ap, ◌∙◌, ap₂, arith}
-use Rattle.std.specs.List.{AllZip, AllByRecursion as All}
+use Rattle.std.specs.List.{AllZip, AllByRecursion}
 use Rattle.std.proofs.ByRecursion.{All-weaker, kept_by_passes}
 use Rattle.selection.specs.declared.refusals.Refusal.{Refusal}
 use Rattle.selection.specs.Refusals.{first_of, settled}
@@ -82,7 +82,7 @@ record Matched {T : Type 0} (s t : State T) (as' bs : List Answer) : Type 0 wher
   pub last : Twins s t
 
 module _ {T : Type 0} (L m n : ℕ) (small : L + 1 ≤ 1024) where
-  matched : (s t : State T) (ps qs : List Push) → length s.scratch ≡ m → length t.scratch ≡ n → Sound s → Sound t → Twins s t → All (λ p. misformed m p ≡ None) ps → All (λ q. misformed n q ≡ None) qs → AllZip SamePick ps qs → Matched (after L s ps) (after L t qs) (answers L s ps) (answers L t qs)
+  matched : (s t : State T) (ps qs : List Push) → length s.scratch ≡ m → length t.scratch ≡ n → Sound s → Sound t → Twins s t → AllByRecursion (λ p. misformed m p ≡ None) ps → AllByRecursion (λ q. misformed n q ≡ None) qs → AllZip SamePick ps qs → Matched (after L s ps) (after L t qs) (answers L s ps) (answers L t qs)
   matched s t [] [] r r' ok ok' h f f' e = record { told = refl; last = h }
   matched s t [] (q ∷ qs) r r' ok ok' h f f' e = absurd e
   matched s t (p ∷ ps) [] r r' ok ok' h f f' e = absurd e
@@ -91,7 +91,7 @@ module _ {T : Type 0} (L m n : ℕ) (small : L + 1 ≤ 1024) where
       let rest = matched (next L s p) (next L t q) ps qs (next_scratch L s p ∙ r) (next_scratch L t q ∙ r') (adds_one L small s p ok).sound (adds_one L small t q ok').sound (twins_next L s t p q h e.0 small ok ok' here) f.1 f'.1 e.1 in
       record { told = ap₂ (λ (a : Answer) (as' : List Answer). a ∷ as') here rest.told; last = rest.last }
 
-formed_each : (n : ℕ) (ps : List Push) → All (λ p. misformed n p ≡ None) (filter (well_formed n) ps)
+formed_each : (n : ℕ) (ps : List Push) → AllByRecursion (λ p. misformed n p ≡ None) (filter (well_formed n) ps)
 formed_each n ps = All-weaker (λ p. well_formed n p ≡ true) (λ p. misformed n p ≡ None) (λ p e. none (misformed n p) e) (filter (well_formed n) ps) (kept_by_passes (well_formed n) ps)
   where
     none : (o : Option Refusal) → not (is_some o) ≡ true → o ≡ None

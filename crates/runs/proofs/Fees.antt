@@ -1,6 +1,6 @@
 -- What ascending places cost at least, and at most.
 use Rattle.std.proofs.Common.{◌≡◌, ℕ, ◌+◌, ◌*◌, ◌/◌, ◌<◌, ◌≤◌, Bool, cond, eqb, ltb, List, [], ◌∷◌, length, filter, sym, ap, ◌∙◌, arith}
-use Rattle.std.specs.List.{AllByRecursion as All}
+use Rattle.std.specs.List.{AllByRecursion}
 use Rattle.std.proofs.lemmas.List.Sums.{length-filter, sum_by-cons}
 use Rattle.std.proofs.lemmas.Bool.Decides.{nat_tests}
 use Rattle.selection.specs.Selected.{Rising}
@@ -17,7 +17,7 @@ abbrev chunk_count : List ℕ → ℕ → ℕ
 chunk_count ps c = length (chunk_places ps c)
 
 -- the chunks have all places that lie in them
-sum_chunks : (n : ℕ) (ps : List ℕ) → All (λ p. p / 1024 < n) ps → sum_below (chunk_count ps) n ≡ length ps
+sum_chunks : (n : ℕ) (ps : List ℕ) → AllByRecursion (λ p. p / 1024 < n) ps → sum_below (chunk_count ps) n ≡ length ps
 sum_chunks n [] h = sum_none n
 sum_chunks n (p ∷ ps) h =
     let rest = sum_chunks n ps h.1 in
@@ -28,7 +28,7 @@ sum_chunks n (p ∷ ps) h =
     let lies : ◌≡◌ {A = ℕ} (cond (ltb (p / 1024) n) 1 0) 1 = grind (arith, nat_tests) in
     omega arith
 
-module _ (L chunks lo hi : ℕ) (ps : List ℕ) (up : Rising lo hi ps) (inside : All (λ p. p / 1024 < chunks) ps) where
+module _ (L chunks lo hi : ℕ) (ps : List ℕ) (up : Rising lo hi ps) (inside : AllByRecursion (λ p. p / 1024 < chunks) ps) where
   pub fee_low : length ps ≤ fee_of L chunks ps
   unfolding fee_of
   fee_low =

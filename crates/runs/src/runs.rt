@@ -4,7 +4,7 @@ ghost use Rattle.std.specs.List.{AllZip};
 ghost use Rattle.selection.specs.Refusals.{answered, settled};
 ghost use Rattle.kernels.specs.Moved.{limit_at_width, splice};
 ghost use Rattle.chunked.specs.Served.{state_of};
-ghost use Rattle.runs.specs.Runs.{after, answers as answersTo, ended_in, new_state, notes_fault};
+ghost use Rattle.runs.specs.Runs.{after, answers as answers_to, ended_in, new_state, notes_fault};
 ghost use Rattle.runs.specs.Laws.{Agree, Alike, Balanced, Fresh, Ran, SamePick, formed_ones};
 
 use chunked::{ChunkedFilter, Push, Receipt};
@@ -31,7 +31,7 @@ fn push_all<D: ChunkDecoder>(
     notes: &mut [Result<Receipt, Refusal>],
 )
     requires { length notes.old ≡ length pushes.now }
-    ensures noted { notes.new ≡ answersTo (limit_at_width D.Item.Element.bytes) (state_of D.ChunkDecoder.readings D.ChunkDecoder.allowance filter.old output.old scratch.old) pushes.now }
+    ensures noted { notes.new ≡ answers_to (limit_at_width D.Item.Element.bytes) (state_of D.ChunkDecoder.readings D.ChunkDecoder.allowance filter.old output.old scratch.old) pushes.now }
     ensures last { state_of D.ChunkDecoder.readings D.ChunkDecoder.allowance filter.new output.new scratch.new ≡ after (limit_at_width D.Item.Element.bytes) (state_of D.ChunkDecoder.readings D.ChunkDecoder.allowance filter.old output.old scratch.old) pushes.now }
 {
     for (k, push) in pushes.iter().enumerate() {

@@ -1,6 +1,6 @@
 -- Well formed lists pick what they list.
 use Rattle.std.proofs.Common.{◌≡◌, ℕ, zero, suc, ◌+◌, ◌-◌, ◌<◌, ◌≤◌, Bool, true, false, ◌&&◌, ◌||◌, eqb, ltb, leb, ◌⊎◌, List, [], ◌∷◌, ◌++◌, length, get_or, None, Ok, sum_by, filter, sym, refl, ap, ◌∙◌, subst, ap₂, ⊎_elim, arith, Bor}
-use Rattle.std.specs.List.{range_with_len, flat_map, AllByRecursion as All}
+use Rattle.std.specs.List.{range_with_len, flat_map, AllByRecursion}
 use Rattle.std.proofs.lemmas.Bool.{ne_eqb, eq-eqb, cases_eq, leb-false, ltb-false, lt-ltb, lt-leb, and_right, or_parts}
 use Rattle.std.proofs.lemmas.Bool.Decides.{nat_tests}
 use Rattle.std.proofs.lemmas.List.{length-append}
@@ -65,7 +65,7 @@ index_sound n xs h =
         (none_when _ _ (and_right (ltb 0 (suc k)) _ (lt-leb (get_or xs (suc k) 0) (get_or xs (suc k - 1) 0) s)), (none_when _ _ (lt-leb n (get_or xs (suc k) 0) r.1), tt))
 
 -- what holds along a count holds at each number
-pub at_count : (P : ℕ → Type 0) (n k : ℕ) → All P (range_with_len 0 n) → k < n → P k
+pub at_count : (P : ℕ → Type 0) (n k : ℕ) → AllByRecursion P (range_with_len 0 n) → k < n → P k
 at_count P n k h l =
     let size = length-range_with_len 0 n in
     let e : get_or (range_with_len 0 n) k 0 ≡ k = get_or-range_with_len 0 n k 0 l ∙ omega arith in

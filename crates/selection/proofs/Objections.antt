@@ -1,6 +1,6 @@
 -- The first objection among several.
 use Rattle.std.proofs.Common.{◌≡◌, ℕ, suc, ◌+◌, ◌-◌, ◌<◌, ◌≤◌, Bool, true, false, List, [], ◌∷◌, Some, None, Ok, Err, Option, sym, refl, ap, ◌∙◌, arith}
-use Rattle.std.specs.List.{range_with_len, AllByRecursion as All}
+use Rattle.std.specs.List.{range_with_len, AllByRecursion}
 use Rattle.selection.specs.declared.refusals.Refusal.{Refusal}
 use Rattle.selection.specs.Refusals.{when, or_else, first_of, first, answered}
 use Rattle.selection.specs.Selected.{long}
@@ -20,19 +20,19 @@ when_none false x e = refl
 pub none_when : {X : Type 0} (b : Bool) (x : X) → b ≡ false → when b x ≡ None
 none_when b x e = ap (λ t. when t x) e
 
-pub first_none : {X Y : Type 0} (f : X → Option Y) (xs : List X) → first f xs ≡ None → All (λ x. f x ≡ None) xs
+pub first_none : {X Y : Type 0} (f : X → Option Y) (xs : List X) → first f xs ≡ None → AllByRecursion (λ x. f x ≡ None) xs
 first_none f [] e = tt
 first_none f (x ∷ xs) e = let h = none_both (f x) (first f xs) e in (h.0, first_none f xs h.1)
 
-pub none_first : {X Y : Type 0} (f : X → Option Y) (xs : List X) → All (λ x. f x ≡ None) xs → first f xs ≡ None
+pub none_first : {X Y : Type 0} (f : X → Option Y) (xs : List X) → AllByRecursion (λ x. f x ≡ None) xs → first f xs ≡ None
 none_first f [] h = refl
 none_first f (x ∷ xs) h = none_from (f x) (first f xs) h.0 (none_first f xs h.1)
 
-pub none_each : {X : Type 0} (os : List (Option X)) → first_of os ≡ None → All (λ o. o ≡ None) os
+pub none_each : {X : Type 0} (os : List (Option X)) → first_of os ≡ None → AllByRecursion (λ o. o ≡ None) os
 none_each [] e = tt
 none_each (o ∷ os) e = let h = none_both o (first_of os) e in (h.0, none_each os h.1)
 
-pub none_of : {X : Type 0} (os : List (Option X)) → All (λ o. o ≡ None) os → first_of os ≡ None
+pub none_of : {X : Type 0} (os : List (Option X)) → AllByRecursion (λ o. o ≡ None) os → first_of os ≡ None
 none_of [] h = refl
 none_of (o ∷ os) h = none_from o (first_of os) h.0 (none_of os h.1)
 

@@ -2,7 +2,7 @@
 use Rattle.std.proofs.Common.{◌≡◌, ℕ, zero, suc, ◌+◌, ◌-◌, ◌*◌, ◌/◌, ◌%◌, ◌^◌, ◌<◌, ◌≤◌, min, Bool, true, false, cond, ◌&&◌, ◌||◌, eqb, ltb, ◌⊎◌, List, [], ◌∷◌, length, get_or, Some, None, Ok, sum_by, filter, Option, sym, refl, ap, ◌∙◌, subst, ap₂, inl, inr, ⊎_elim, lt_of_lt_of_le, add-zero, pow-suc, arith, pow_mono, Bor}
 use lib.Arith.{lt-one}
 use lib.Count.{ones, count_leading_zeros, count_trailing_zeros, leading_top}
-use Rattle.std.specs.List.{range_with_len, AllByRecursion as All}
+use Rattle.std.specs.List.{range_with_len, AllByRecursion}
 use Rattle.std.proofs.lemmas.Nat.{div_below, le-div}
 use Rattle.std.proofs.lemmas.List.FromFn.{length-range_with_len}
 use Rattle.std.proofs.ByRecursion.{All-weaker}
@@ -93,7 +93,7 @@ among_within a (suc n) k h = go (among_within (a + 1) n k) (cases_eq a k)
     go rest (inl e) = (omega arith, omega arith)
     go rest (inr e) = let no' : eqb a k ≡ false = ne_eqb a k e in let r = rest (rw no' at h) in (omega arith, omega arith)
 
-kept_all : (q : ℕ → Bool) (n a b : ℕ) → EndsIn q n a b → (i m : ℕ) → i + m ≤ n → All (λ k. (a ≤ k) × (k < b)) (filter q (range_with_len i m))
+kept_all : (q : ℕ → Bool) (n a b : ℕ) → EndsIn q n a b → (i m : ℕ) → i + m ≤ n → AllByRecursion (λ k. (a ≤ k) × (k < b)) (filter q (range_with_len i m))
 kept_all q n a b h i zero l = tt
 kept_all q n a b h i (suc m) l = go (q i) refl (kept_all q n a b h (i + 1) m (omega arith))
   where
@@ -103,7 +103,7 @@ kept_all q n a b h i (suc m) l = go (q i) refl (kept_all q n a b h (i + 1) m (om
     within : q i ≡ true → (a ≤ i) × (i < b)
     within e = (⊎_elim (λ g. clash e (h.below i g)) (λ g. g) (cases_lt i a), ⊎_elim (λ g. g) (λ g. clash e (h.above i g (omega arith))) (cases_lt i b))
 
-    go : (t : Bool) → q i ≡ t → All (λ k. (a ≤ k) × (k < b)) (filter q (range_with_len (i + 1) m)) → All (λ k. (a ≤ k) × (k < b)) (cond t (i ∷ filter q (range_with_len (i + 1) m)) (filter q (range_with_len (i + 1) m)))
+    go : (t : Bool) → q i ≡ t → AllByRecursion (λ k. (a ≤ k) × (k < b)) (filter q (range_with_len (i + 1) m)) → AllByRecursion (λ k. (a ≤ k) × (k < b)) (cond t (i ∷ filter q (range_with_len (i + 1) m)) (filter q (range_with_len (i + 1) m)))
     go true e r = (within e, r)
     go false e r = r
 
@@ -112,7 +112,7 @@ kept_between : (q : ℕ → Bool) (n a b : ℕ) → EndsIn q n a b → Rising a 
 kept_between q n a b h =
     let ps = filter q (range_with_len 0 n) in
     let up : Rising 0 n ps = rising_kept q 0 n (range_with_len 0 n) (rising_counting 0 n n (omega arith)) in
-    let each : All (λ k. (a ≤ k) × (k < b)) ps = kept_all q n a b h 0 n (omega arith) in
+    let each : AllByRecursion (λ k. (a ≤ k) × (k < b)) ps = kept_all q n a b h 0 n (omega arith) in
     rising_above 0 b a ps (rising_below 0 n b ps up (All-weaker (λ k. (a ≤ k) × (k < b)) (λ k. k < b) (λ k l. l.1) ps each)) (All-weaker (λ k. (a ≤ k) × (k < b)) (λ k. a ≤ k) (λ k l. l.0) ps each)
 
 pub run_of_none : (xs : List ℕ) → length xs ≡ 0 → run_of xs ≡ None

@@ -1,6 +1,6 @@
 -- Ascending lists of numbers.
 use Rattle.std.proofs.Common.{◌≡◌, ℕ, zero, suc, ◌+◌, ◌-◌, ◌<◌, ◌≤◌, Bool, true, false, cond, List, [], ◌∷◌, map, length, get_or, filter, refl, ap₂, arith}
-use Rattle.std.specs.List.{range_with_len, AllByRecursion as All}
+use Rattle.std.specs.List.{range_with_len, AllByRecursion}
 use Rattle.std.proofs.ByRecursion.{All-weaker}
 use Rattle.selection.specs.Selected.{Rising}
 
@@ -32,15 +32,15 @@ pub rising_length : (lo hi : ℕ) (xs : List ℕ) → Rising lo hi xs → length
 rising_length lo hi [] h = omega arith
 rising_length lo hi (x ∷ xs) h = let rest = rising_length (suc x) hi xs h.2 in omega arith
 
-pub rising_below : (lo hi b : ℕ) (xs : List ℕ) → Rising lo hi xs → All (λ x. x < b) xs → Rising lo b xs
+pub rising_below : (lo hi b : ℕ) (xs : List ℕ) → Rising lo hi xs → AllByRecursion (λ x. x < b) xs → Rising lo b xs
 rising_below lo hi b [] h k = tt
 rising_below lo hi b (x ∷ xs) h k = (h.0, k.0, rising_below (suc x) hi b xs h.2 k.1)
 
-pub rising_above : (lo hi a : ℕ) (xs : List ℕ) → Rising lo hi xs → All (λ x. a ≤ x) xs → Rising a hi xs
+pub rising_above : (lo hi a : ℕ) (xs : List ℕ) → Rising lo hi xs → AllByRecursion (λ x. a ≤ x) xs → Rising a hi xs
 rising_above lo hi a [] h k = tt
 rising_above lo hi a (x ∷ xs) h k = (k.0, h.1, h.2)
 
-pub rising_all : (lo hi : ℕ) (xs : List ℕ) → Rising lo hi xs → All (λ x. (lo ≤ x) × (x < hi)) xs
+pub rising_all : (lo hi : ℕ) (xs : List ℕ) → Rising lo hi xs → AllByRecursion (λ x. (lo ≤ x) × (x < hi)) xs
 rising_all lo hi [] h = tt
 rising_all lo hi (x ∷ xs) h = ((h.0, h.1), All-weaker (λ y. (suc x ≤ y) × (y < hi)) (λ y. (lo ≤ y) × (y < hi)) (λ y k. (omega arith, k.1)) xs (rising_all (suc x) hi xs h.2))
 

@@ -1,6 +1,6 @@
 -- The places of a bitmap, chunk by chunk.
 use Rattle.std.proofs.Common.{◌≡◌, ℕ, ◌+◌, ◌-◌, ◌/◌, ◌<◌, ◌≤◌, min, Bool, [], ◌++◌, length, filter, ap, ◌∙◌, ap₂, arith}
-use Rattle.std.specs.List.{range_with_len, AllByRecursion as All}
+use Rattle.std.specs.List.{range_with_len, AllByRecursion}
 use Rattle.std.proofs.lemmas.List.Elements.{filter-append}
 use Rattle.std.proofs.ByRecursion.{all_kept_by, All-map, All-weaker}
 use Rattle.std.proofs.lemmas.List.{length-append, map-append}
@@ -20,12 +20,12 @@ kept_split q a b d h l =
     let on : a + (b - a) ≡ b = omega arith in
     ap (λ m. filter q (range_with_len a m)) n ∙ ap (filter q) (counting_split (b - a) (d - b) a) ∙ filter-append q (range_with_len a (b - a)) (range_with_len (a + (b - a)) (d - b)) ∙ ap (λ x. kept_between_places q a b ++ filter q (range_with_len x (d - b))) on
 
-pub kept_within : (q : ℕ → Bool) (a b : ℕ) → All (λ x. (a ≤ x) × (x < b)) (kept_between_places q a b)
+pub kept_within : (q : ℕ → Bool) (a b : ℕ) → AllByRecursion (λ x. (a ≤ x) × (x < b)) (kept_between_places q a b)
 kept_within q a b = all_kept_by q (λ x. (a ≤ x) × (x < b)) (range_with_len a (b - a)) (All-weaker (λ x. (a ≤ x) × (x < a + (b - a))) (λ x. (a ≤ x) × (x < b)) (λ x h. (h.0, omega arith)) (range_with_len a (b - a)) (rising_all a (a + (b - a)) (range_with_len a (b - a)) (rising_counting a (b - a) (a + (b - a)) (omega arith))))
 
 -- the places of the positions that a test keeps, of a selection of length n at an offset, by chunk c
 module _ (q : ℕ → Bool) (offset n c : ℕ) (small : offset ≤ 1024) where
-  pub chunk_here : All (λ p. p / 1024 ≡ c) (at offset (kept_between_places q (boundary offset n c) (boundary offset n (c + 1))))
+  pub chunk_here : AllByRecursion (λ p. p / 1024 ≡ c) (at offset (kept_between_places q (boundary offset n c) (boundary offset n (c + 1))))
   chunk_here = All-map (λ p. p / 1024 ≡ c) (moved offset) (kept_between_places q (boundary offset n c) (boundary offset n (c + 1))) (All-weaker (λ x. (boundary offset n c ≤ x) × (x < boundary offset n (c + 1))) (λ x. moved offset x / 1024 ≡ c) (λ x h. omega arith) (kept_between_places q (boundary offset n c) (boundary offset n (c + 1))) (kept_within q (boundary offset n c) (boundary offset n (c + 1))))
 
   -- the places before the next chunk

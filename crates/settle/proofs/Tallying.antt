@@ -1,6 +1,6 @@
 -- One more part of the places on a tally.
 use Rattle.std.proofs.Common.{◌≡◌, ℕ, zero, suc, ◌+◌, ◌-◌, ◌*◌, ◌/◌, ◌<◌, ◌≤◌, Bool, true, false, leb, ◌⊎◌, List, [], ◌∷◌, ◌++◌, length, is_some, Some, None, Option, sym, refl, ap, ◌∙◌, subst, ap₂, inl, inr, arith}
-use Rattle.std.specs.List.{range_with_len, AllByRecursion as All}
+use Rattle.std.specs.List.{range_with_len, AllByRecursion}
 use Rattle.std.proofs.lemmas.List.Elements.{filter-append}
 use Rattle.std.proofs.ByRecursion.{All-append, All-weaker}
 use Rattle.std.proofs.lemmas.List.{append-nil, length-append}
@@ -33,7 +33,7 @@ price_none : (L n : ℕ) → n ≡ 0 → price L n ≡ 0
 price_none L n e = grind (arith, nat_tests)
 
 -- chunks past all places cost nothing
-pub fee_wider : (L n m : ℕ) (ps : List ℕ) → All (λ p. p / 1024 < n) ps → n ≤ m → fee_of L m ps ≡ fee_of L n ps
+pub fee_wider : (L n m : ℕ) (ps : List ℕ) → AllByRecursion (λ p. p / 1024 < n) ps → n ≤ m → fee_of L m ps ≡ fee_of L n ps
 unfolding fee_of
 fee_wider L n m ps below l =
     let on : n + (m - n) ≡ m = omega arith in
@@ -44,7 +44,7 @@ unfolding fee_of
 fee_next L n ps = refl
 
 -- places of one chunk after others
-module _ (c : ℕ) (ps ys : List ℕ) (here : All (λ p. p / 1024 ≡ c) ys) where
+module _ (c : ℕ) (ps ys : List ℕ) (here : AllByRecursion (λ p. p / 1024 ≡ c) ys) where
   count_more : (d : ℕ) → length (chunk_places (ps ++ ys) d) ≡ length (chunk_places ps d) + length (chunk_places ys d)
   count_more d = ap length (filter-append (in_chunk d) ps ys) ∙ length-append (chunk_places ps d) (chunk_places ys d)
 
@@ -65,11 +65,11 @@ first_append f (x ∷ xs) ys = ap (or_else (f x)) (first_append f xs ys) ∙ or_
     or_assoc (Some x) p q = refl
 
 -- what places of one chunk raise
-past_one : (chunks c : ℕ) (ys : List ℕ) → All (λ p. p / 1024 ≡ c) ys → 0 < length ys → first (past_source chunks) ys ≡ when (leb chunks c) (Beyond c)
+past_one : (chunks c : ℕ) (ys : List ℕ) → AllByRecursion (λ p. p / 1024 ≡ c) ys → 0 < length ys → first (past_source chunks) ys ≡ when (leb chunks c) (Beyond c)
 past_one chunks c [] here some = absurd (omega arith)
 past_one chunks c (y ∷ ys) here some = ap (λ d. or_else (when (leb chunks d) (Beyond d)) (first (past_source chunks) ys)) here.0 ∙ go (leb chunks c) refl
   where
-    none : (zs : List ℕ) → All (λ p. p / 1024 ≡ c) zs → leb chunks c ≡ false → first (past_source chunks) zs ≡ None
+    none : (zs : List ℕ) → AllByRecursion (λ p. p / 1024 ≡ c) zs → leb chunks c ≡ false → first (past_source chunks) zs ≡ None
     none [] all e = refl
     none (z ∷ zs) all e = ap (λ d. or_else (when (leb chunks d) (Beyond d)) (first (past_source chunks) zs)) all.0 ∙ rw e (none zs all.1 e)
 
@@ -78,11 +78,11 @@ past_one chunks c (y ∷ ys) here some = ap (λ d. or_else (when (leb chunks d) 
     go false e = none ys here.1 e
 
 -- n places of chunk c after those of a tally
-module _ (t : Terms) (y : Tally) (ps ys : List ℕ) (c n : ℕ) (h : Tallied t y ps) (here : All (λ p. p / 1024 ≡ c) ys) (size : length ys ≡ n) (ahead : y.chunk ≤ c) where
+module _ (t : Terms) (y : Tally) (ps ys : List ℕ) (c n : ℕ) (h : Tallied t y ps) (here : AllByRecursion (λ p. p / 1024 ≡ c) ys) (size : length ys ≡ n) (ahead : y.chunk ≤ c) where
   earlier : (p : ℕ) → p / 1024 ≤ y.chunk → p / 1024 ≤ c
   earlier p l = omega arith
 
-  pub within_more : All (λ p. p / 1024 ≤ c) (ps ++ ys)
+  pub within_more : AllByRecursion (λ p. p / 1024 ≤ c) (ps ++ ys)
   within_more = All-append (λ p. p / 1024 ≤ c) ps ys (All-weaker (λ p. p / 1024 ≤ y.chunk) (λ p. p / 1024 ≤ c) earlier ps h.within) (All-weaker (λ p. p / 1024 ≡ c) (λ p. p / 1024 ≤ c) (λ p e. omega arith) ys here)
 
   -- the current chunk goes on
@@ -96,7 +96,7 @@ module _ (t : Terms) (y : Tally) (ps ys : List ℕ) (c n : ℕ) (h : Tallied t y
   -- another chunk begins
   pub next_chunk : y.chunk < c → (y.fee + price t.limit y.count ≡ fee_of t.limit c (ps ++ ys)) × (0 + n ≡ length (chunk_places (ps ++ ys) c))
   next_chunk l =
-      let below : All (λ p. p / 1024 < suc y.chunk) ps = All-weaker (λ p. p / 1024 ≤ y.chunk) (λ p. p / 1024 < suc y.chunk) (λ p k. omega arith) ps h.within in
+      let below : AllByRecursion (λ p. p / 1024 < suc y.chunk) ps = All-weaker (λ p. p / 1024 ≤ y.chunk) (λ p. p / 1024 < suc y.chunk) (λ p k. omega arith) ps h.within in
       let wide = fee_wider t.limit (suc y.chunk) c ps below l in
       let next = fee_next t.limit y.chunk ps in
       let cost = h.fee in
@@ -149,7 +149,7 @@ module _ (L : ℕ) (y : Tally) (c n : ℕ) (z : Tally) (turn : Turned L y c z) w
       go (inr e) = let f = e.1 in let k = e.2 in let most = price_times L y.count in omega arith
 
 -- the tally with the n places of ys
-module _ (t : Terms) (y : Tally) (c n : ℕ) (z : Tally) (turn : Turned t.limit y c z) (ps ys : List ℕ) (h : Tallied t y ps) (here : All (λ p. p / 1024 ≡ c) ys) (size : length ys ≡ n) (ahead : y.chunk ≤ c) where
+module _ (t : Terms) (y : Tally) (c n : ℕ) (z : Tally) (turn : Turned t.limit y c z) (ps ys : List ℕ) (h : Tallied t y ps) (here : AllByRecursion (λ p. p / 1024 ≡ c) ys) (size : length ys ≡ n) (ahead : y.chunk ≤ c) where
   turned_sums : (z.fee ≡ fee_of t.limit c (ps ++ ys)) × (z.count + n ≡ length (chunk_places (ps ++ ys) c))
   turned_sums = go turn.by
     where
@@ -164,7 +164,7 @@ module _ (t : Terms) (y : Tally) (c n : ℕ) (z : Tally) (turn : Turned t.limit 
       record {
         fee = sums.0 ∙ ap (λ d. fee_of t.limit d (ps ++ ys)) (sym at_c);
         count = sums.1 ∙ ap (λ d. length (chunk_places (ps ++ ys) d)) (sym at_c);
-        within = subst (λ d. All (λ p. p / 1024 ≤ d) (ps ++ ys)) (sym at_c) (within_more t y ps ys c n h here size ahead);
+        within = subst (λ d. AllByRecursion (λ p. p / 1024 ≤ d) (ps ++ ys)) (sym at_c) (within_more t y ps ys c n h here size ahead);
         beyond = e;
       }
 
@@ -181,10 +181,10 @@ tallied_still t y ps (x ∷ ys) e h = absurd (omega arith)
 pub tallied_fee : (t : Terms) (y : Tally) (ps : List ℕ) → Tallied t y ps → first (past_source t.chunks) ps ≡ None → y.fee + price t.limit y.count ≡ fee_of t.limit t.chunks ps
 tallied_fee t y ps h none = go (cases_lt y.chunk t.chunks)
   where
-    inside : All (λ p. p / 1024 < t.chunks) ps
+    inside : AllByRecursion (λ p. p / 1024 < t.chunks) ps
     inside = All-weaker (λ p. past_source t.chunks p ≡ None) (λ p. p / 1024 < t.chunks) (λ p e. leb-false t.chunks (p / 1024) (when_none _ _ e)) ps (first_none (past_source t.chunks) ps none)
 
-    below : All (λ p. p / 1024 < suc y.chunk) ps
+    below : AllByRecursion (λ p. p / 1024 < suc y.chunk) ps
     below = All-weaker (λ p. p / 1024 ≤ y.chunk) (λ p. p / 1024 < suc y.chunk) (λ p k. omega arith) ps h.within
 
     whole : y.fee + price t.limit y.count ≡ fee_of t.limit (suc y.chunk) ps
@@ -202,5 +202,5 @@ counting_on a b d h l =
     ap (range_with_len a) n ∙ counting_split (b - a) (d - b) a ∙ ap (λ x. range_with_len a (b - a) ++ range_with_len x (d - b)) on
 
 -- those up to the end of a chunk lie in it
-pub counting_chunk : (a b c : ℕ) → c ≡ a / 1024 → a ≤ b → b ≤ (c + 1) * 1024 → All (λ p. p / 1024 ≡ c) (range_with_len a (b - a))
+pub counting_chunk : (a b c : ℕ) → c ≡ a / 1024 → a ≤ b → b ≤ (c + 1) * 1024 → AllByRecursion (λ p. p / 1024 ≡ c) (range_with_len a (b - a))
 counting_chunk a b c e o l = All-weaker (λ p. (a ≤ p) × (p < b)) (λ p. p / 1024 ≡ c) (λ p h. omega arith) (range_with_len a (b - a)) (rising_all a b (range_with_len a (b - a)) (rising_counting a (b - a) b (omega arith)))

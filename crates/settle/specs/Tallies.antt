@@ -1,6 +1,6 @@
 -- What a tally says of the places so far.
 use Rattle.std.specs.Prelude.{◌≡◌, ℕ, ◌/◌, ◌≤◌, List, length, Some, None, Option}
-use Rattle.std.specs.List.{AllByRecursion as All}
+use Rattle.std.specs.List.{AllByRecursion}
 use Rattle.selection.specs.declared.refusals.Refusal.{Refusal}
 use Rattle.selection.specs.declared.refusals.Refusal.TheVariants.{Beyond}
 use Rattle.selection.specs.Refusals.{first}
@@ -18,5 +18,5 @@ beyond_fault (Some c) = Some (Beyond c)
 pub record Tallied (t : Terms) (y : Tally) (ps : List ℕ) : Type 0 where
   pub fee : y.fee ≡ fee_of t.limit y.chunk ps
   pub count : y.count ≡ length (chunk_places ps y.chunk)
-  pub within : All (λ p. p / 1024 ≤ y.chunk) ps
+  pub within : AllByRecursion (λ p. p / 1024 ≤ y.chunk) ps
   pub beyond : first (past_source t.chunks) ps ≡ beyond_fault y.beyond

@@ -1,13 +1,13 @@
 //! What a push will answer, settled before anything is fetched.
 ghost use Rattle.std.specs.Prelude.{◌≡◌, ℕ, ◌+◌, ◌-◌, ◌*◌, ◌/◌, ◌^◌, ◌<◌, ◌≤◌, List, ◌++◌, map, length, None};
-ghost use Rattle.std.specs.List.{range_with_len, AllByRecursion as All};
+ghost use Rattle.std.specs.List.{range_with_len, AllByRecursion};
 ghost use Rattle.selection.specs.declared.selections.Selection.TheVariants.{Bitmap, Indices, Runs};
 ghost use Rattle.selection.specs.Refusals.{answered, first};
 ghost use Rattle.selection.specs.Selected.{window_positions};
 ghost use Rattle.settle.specs.Prices.{price};
 ghost use Rattle.settle.specs.Bounds.{boundary};
 ghost use Rattle.settle.specs.Tallies.{Tallied};
-ghost use Rattle.settle.specs.Pushes.{answer, fee as feeUnder, grant_fault, moved, past_source, receipt, room_fault};
+ghost use Rattle.settle.specs.Pushes.{answer, fee as fee_under, grant_fault, moved, past_source, receipt, room_fault};
 
 use selection::{Refusal, Run, Selection, Window, check_index, check_len, check_run};
 use source::CHUNK;
@@ -107,7 +107,7 @@ impl Tally {
         requires ahead { self.old.chunk ≤ chunk }
         requires some { 0 < n }
         requires fits { self.old.fee + 1024 * (self.old.count + n) < 2 ^ 64 }
-        ensures tallied { (ps ys : List ℕ) → Tallied terms.now self.old ps → All (λ p. p / 1024 ≡ chunk) ys → length ys ≡ n → Tallied terms.now self.new (ps ++ ys) }
+        ensures tallied { (ps ys : List ℕ) → Tallied terms.now self.old ps → AllByRecursion (λ p. p / 1024 ≡ chunk) ys → length ys ≡ n → Tallied terms.now self.new (ps ++ ys) }
         ensures current { self.new.chunk ≡ chunk }
         ensures weight { self.new.fee + 1024 * self.new.count ≤ self.old.fee + 1024 * (self.old.count + n) }
     {
@@ -144,7 +144,7 @@ impl Tally {
     /// The fee of all the places, or the first chunk past the source.
     fn end(self, terms: &Terms) -> Result<u64, Refusal>
         requires { self.fee + 1024 * self.count < 2 ^ 64 }
-        ensures { (ps : List ℕ) → Tallied terms.now self ps → result ≡ answered (first (past_source terms.now.chunks) ps) (feeUnder terms.now ps) }
+        ensures { (ps : List ℕ) → Tallied terms.now self ps → result ≡ answered (first (past_source terms.now.chunks) ps) (fee_under terms.now ps) }
     {
         match self.beyond {
             Some(chunk) => Err(Refusal::Beyond { place: chunk }),

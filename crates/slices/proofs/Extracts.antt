@@ -1,7 +1,7 @@
 -- Bits at the set bits of a mask.
 use Rattle.std.proofs.Common.{◌≡◌, ℕ, zero, suc, ◌+◌, ◌-◌, ◌*◌, ◌/◌, ◌%◌, ◌^◌, ◌<◌, ◌≤◌, Bool, true, false, cond, List, [], ◌∷◌, ◌++◌, map, length, get_or, replicate, filter, sym, refl, ap, ◌∙◌, ap₂, ⊎_elim, lt_of_lt_of_le, mul_assoc, mul_comm, add-mul, add_comm, arith, pow_mono, pow-add}
 use lib.Bits.{bit_and, bit_or}
-use Rattle.std.specs.List.{range_with_len, AllByRecursion as All}
+use Rattle.std.specs.List.{range_with_len, AllByRecursion}
 use Rattle.std.proofs.lemmas.Nat.{or_comm, or_shifted, shl_whole}
 use Rattle.std.proofs.lemmas.List.FromFn.{fill_by_all, length-map-range_with_len, take-map-range_with_len}
 use Rattle.std.proofs.ByRecursion.{All-append, All-get_or, All-weaker}
@@ -67,13 +67,13 @@ pub pext_bits : (src mask r : ℕ) → r ≡ packed (map (bit_of src) (set_bits 
 pext_bits src mask r e = record { low = λ k h. taken_bit 64 src mask r k e h; high = λ k h. past_bit 64 src mask r k e h }
 
 -- an entry of a row is a bit of a byte, or their number
-row_small : (b : ℕ) → All (λ x. x ≤ 8) (row_of b)
+row_small : (b : ℕ) → AllByRecursion (λ x. x ≤ 8) (row_of b)
 unfolding row_of
 row_small b =
     let js = bits_of 8 b in
     All-append (λ x. x ≤ 8) js _ (All-weaker (λ x. x < 8) (λ x. x ≤ 8) (λ x h. omega arith) js (kept_inside (bit_of b) 8)) (All-append (λ x. x ≤ 8) (replicate (8 - length js) 0) _ (zeros (8 - length js)) (length_bits_of 8 b, tt))
   where
-    zeros : (n : ℕ) → All (λ x. x ≤ 8) (replicate n 0)
+    zeros : (n : ℕ) → AllByRecursion (λ x. x ≤ 8) (replicate n 0)
     zeros zero = tt
     zeros (suc n) = (omega arith, zeros n)
 

@@ -1,6 +1,6 @@
 -- What a well formed selection picks, form by form.
 use Rattle.std.proofs.Common.{◌≡◌, ℕ, zero, suc, ◌+◌, ◌-◌, ◌^◌, ◌<◌, ◌≤◌, List, [], ◌∷◌, ◌++◌, map, length, get_or, drop, None, sym, refl, ap, ◌∙◌, subst, ap₂, arith, Bor}
-use Rattle.std.specs.List.{range_with_len, flat_map, AllByRecursion as All}
+use Rattle.std.specs.List.{range_with_len, flat_map, AllByRecursion}
 use Rattle.std.proofs.ByRecursion.{All-weaker}
 use Rattle.std.proofs.lemmas.List.{drop_more}
 use Rattle.selection.specs.declared.windows.Window.{Window}
@@ -67,7 +67,7 @@ pub ranges_inside : (n : ℕ) (rs : List Run) → RunsRise 0 n rs → Inside n (
 ranges_inside n rs h = rising_inside n (flat_map range rs) (ranges_rise 0 n rs h)
 
 -- indices that are not moved
-pub rising_within_64 : (n : ℕ) (xs : List ℕ) → n < 2 ^ 64 → Rising 0 n xs → All (Within 0 0 n) xs
+pub rising_within_64 : (n : ℕ) (xs : List ℕ) → n < 2 ^ 64 → Rising 0 n xs → AllByRecursion (Within 0 0 n) xs
 rising_within_64 n xs l h = All-weaker (λ p. (0 ≤ p) × (p < n)) (Within 0 0 n) (λ p i. let b = i.1 in record { fits = omega arith; above = omega arith; below = omega arith }) xs (rising_all 0 n xs h)
 
 unshifted : (xs : List ℕ) → map (shifted 0 0) xs ≡ xs

@@ -1,7 +1,7 @@
 -- The bits of a window at some positions.
 use Rattle.std.proofs.Common.{◌≡◌, ℕ, zero, suc, ◌+◌, ◌-◌, ◌*◌, ◌/◌, ◌^◌, ◌<◌, ◌≤◌, min, Bool, true, false, cond, ◌&&◌, ◌⊎◌, List, [], ◌∷◌, ◌++◌, map, length, get_or, drop, filter, sym, refl, ap, ◌∙◌, subst, ap₂, ⊎_elim, arith}
 use lib.Count.{ones}
-use Rattle.std.specs.List.{range_with_len, flat_map, AllByRecursion as All}
+use Rattle.std.specs.List.{range_with_len, flat_map, AllByRecursion}
 use Rattle.std.proofs.lemmas.List.FromFn.{get_or-map-range_with_len, length-map-range_with_len}
 use Rattle.std.proofs.lemmas.List.{map-append}
 use Rattle.std.proofs.lemmas.Bool.{cases_lt, lt-ltb}
@@ -19,7 +19,7 @@ use Rattle.slices.proofs.Formed.{run_parts}
 use Rattle.slices.proofs.Extracts.{bits_own, pext_is}
 use Rattle.slices.proofs.Packed.{packed_bit, packed_lt}
 
-pub same_on : {X Y : Type 0} (P Q : X → Type 0) (f g : X → Y) → ((x : X) → P x → Q x → f x ≡ g x) → (xs : List X) → All P xs → All Q xs → map f xs ≡ map g xs
+pub same_on : {X Y : Type 0} (P Q : X → Type 0) (f g : X → Y) → ((x : X) → P x → Q x → f x ≡ g x) → (xs : List X) → AllByRecursion P xs → AllByRecursion Q xs → map f xs ≡ map g xs
 same_on P Q f g h [] p q = refl
 same_on P Q f g h (x ∷ xs) p q = ap₂ (λ y ys. y ∷ ys) (h x p.0 q.0) (same_on P Q f g h xs p.1 q.1)
 
@@ -56,18 +56,18 @@ pub word_count : (n mask : ℕ) → mask < 2 ^ n → length (set_bits n mask 0) 
 word_count n mask h = sym (ap ones (from_own mask n h) ∙ ones_from (bit_of mask) n ∙ ap length (bits_own n mask))
 
 -- no position past the length
-kept_below : (q : ℕ → Bool) (len n a : ℕ) → ((i : ℕ) → len ≤ i → q i ≡ false) → All (λ p. p < len) (filter q (range_with_len a n))
+kept_below : (q : ℕ → Bool) (len n a : ℕ) → ((i : ℕ) → len ≤ i → q i ≡ false) → AllByRecursion (λ p. p < len) (filter q (range_with_len a n))
 kept_below q len zero a h = tt
 kept_below q len (suc n) a h = ⊎_elim (within (kept_below q len n (a + 1) h)) (past (kept_below q len n (a + 1) h)) (cases_lt a len)
   where
-    either : (b : Bool) → All (λ p. p < len) (filter q (range_with_len (a + 1) n)) → a < len → All (λ p. p < len) (cond b (a ∷ filter q (range_with_len (a + 1) n)) (filter q (range_with_len (a + 1) n)))
+    either : (b : Bool) → AllByRecursion (λ p. p < len) (filter q (range_with_len (a + 1) n)) → a < len → AllByRecursion (λ p. p < len) (cond b (a ∷ filter q (range_with_len (a + 1) n)) (filter q (range_with_len (a + 1) n)))
     either true r l = (l, r)
     either false r l = r
 
-    within : All (λ p. p < len) (filter q (range_with_len (a + 1) n)) → a < len → All (λ p. p < len) (filter q (range_with_len a (suc n)))
+    within : AllByRecursion (λ p. p < len) (filter q (range_with_len (a + 1) n)) → a < len → AllByRecursion (λ p. p < len) (filter q (range_with_len a (suc n)))
     within r l = either (q a) r l
 
-    past : All (λ p. p < len) (filter q (range_with_len (a + 1) n)) → len ≤ a → All (λ p. p < len) (filter q (range_with_len a (suc n)))
+    past : AllByRecursion (λ p. p < len) (filter q (range_with_len (a + 1) n)) → len ≤ a → AllByRecursion (λ p. p < len) (filter q (range_with_len a (suc n)))
     past r l = rw (h a l) r
 
 -- a word of the source by a word of the mask, of n bits
@@ -80,11 +80,11 @@ module _ (source window : Window) (same : window.len ≡ source.len) (k : ℕ) w
   moved : (n : ℕ) → set_bits n (word_of window k) (64 * k) ≡ map (λ j. 64 * k + j) (set_bits n (word_of window k) 0)
   moved n = let e : 64 * k ≡ 64 * k + 0 = omega arith in ap (set_bits n (word_of window k)) e ∙ bits_moved n (word_of window k) (64 * k) 0
 
-  below : (n : ℕ) → n ≤ 64 → All (λ j. 64 * k + j < window.len) (set_bits n (word_of window k) 0)
-  below n h = all_of_map (λ p. p < window.len) (λ j. 64 * k + j) (set_bits n (word_of window k) 0) (subst (All (λ p. p < window.len)) (here n h ∙ moved n) (kept_below (mask_bit (Framed window)) window.len n (64 * k) (window_mask window).clear))
+  below : (n : ℕ) → n ≤ 64 → AllByRecursion (λ j. 64 * k + j < window.len) (set_bits n (word_of window k) 0)
+  below n h = all_of_map (λ p. p < window.len) (λ j. 64 * k + j) (set_bits n (word_of window k) 0) (subst (AllByRecursion (λ p. p < window.len)) (here n h ∙ moved n) (kept_below (mask_bit (Framed window)) window.len n (64 * k) (window_mask window).clear))
 
-  small : (n : ℕ) → n ≤ 64 → All (λ j. j < n) (set_bits n (word_of window k) 0)
-  small n h = subst (All (λ j. j < n)) (bits_own n (word_of window k)) (kept_inside (bit_of (word_of window k)) n)
+  small : (n : ℕ) → n ≤ 64 → AllByRecursion (λ j. j < n) (set_bits n (word_of window k) 0)
+  small n h = subst (AllByRecursion (λ j. j < n)) (bits_own n (word_of window k)) (kept_inside (bit_of (word_of window k)) n)
 
   and_true : (b : Bool) → (b && true) ≡ b
   and_true true = refl

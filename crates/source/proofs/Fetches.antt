@@ -1,6 +1,6 @@
 -- What a fetch asks and leaves.
 use Rattle.std.proofs.Common.{◌≡◌, ℕ, zero, suc, ◌+◌, ◌-◌, ◌*◌, ◌/◌, ◌%◌, ◌<◌, ◌≤◌, min, ltb, leb, List, [], ◌∷◌, ◌++◌, map, length, get_or, take, drop, Some, None, Ok, Err, Option, sym, refl, ap, ◌∙◌, ap₂, add_assoc, arith}
-use Rattle.std.specs.List.{range_with_len, AllByRecursion as All}
+use Rattle.std.specs.List.{range_with_len, AllByRecursion}
 use Rattle.std.proofs.lemmas.List.{take_all}
 use Rattle.std.proofs.lemmas.List.FromFn.{length-range_with_len, get_or-range_with_len}
 use Rattle.std.proofs.ByRecursion.{All-map, All-weaker, All-get_or, All-from_get_or}
@@ -25,12 +25,12 @@ pub index_fine : (is : List ℕ) (k : ℕ) → get_or is k 0 < 1024 → index_fa
 index_fine is k h = grind (arith, nat_tests)
 
 -- indices below 1,024 are not refused
-pub indices_inside : (is : List ℕ) → All (λ i. i < 1024) is → first (index_fault is) (range_with_len 0 (length is)) ≡ None
+pub indices_inside : (is : List ℕ) → AllByRecursion (λ i. i < 1024) is → first (index_fault is) (range_with_len 0 (length is)) ≡ None
 indices_inside is h =
     none_first (index_fault is) (range_with_len 0 (length is))
     (All-weaker (λ k. (0 ≤ k) × (k < length is)) (λ k. index_fault is k ≡ None) (λ k l. index_fine is k (All-get_or (λ i. i < 1024) is k 0 l.1 h)) (range_with_len 0 (length is)) (rising_all 0 (length is) (range_with_len 0 (length is)) (rising_counting 0 (length is) (length is) (omega arith))))
 
-pub inside_indices : (is : List ℕ) → first (index_fault is) (range_with_len 0 (length is)) ≡ None → All (λ i. i < 1024) is
+pub inside_indices : (is : List ℕ) → first (index_fault is) (range_with_len 0 (length is)) ≡ None → AllByRecursion (λ i. i < 1024) is
 inside_indices is e =
     All-from_get_or (λ i. i < 1024) is 0 (λ k l. leb-false 1024 (get_or is k 0) (when_none _ _ (at_count (λ k. index_fault is k ≡ None) (length is) k (first_none (index_fault is) (range_with_len 0 (length is)) e) l)))
 
@@ -38,7 +38,7 @@ pub whole_length : length whole_chunk ≡ 1024
 unfolding whole_chunk
 whole_length = length-range_with_len 0 1024
 
-pub whole_below : All (λ i. i < 1024) whole_chunk
+pub whole_below : AllByRecursion (λ i. i < 1024) whole_chunk
 unfolding whole_chunk
 whole_below = All-weaker (λ k. (0 ≤ k) × (k < 1024)) (λ k. k < 1024) (λ k l. l.1) (range_with_len 0 1024) (rising_all 0 1024 (range_with_len 0 1024) (rising_counting 0 1024 1024 (omega arith)))
 
@@ -48,7 +48,7 @@ whole_inside = indices_inside whole_chunk whole_below
 -- a fetch that nothing stands against
 pub record Admits (chunks left room c : ℕ) (is : List ℕ) : Type 0 where
   pub chunk : c < chunks
-  pub indices : All (λ i. i < 1024) is
+  pub indices : AllByRecursion (λ i. i < 1024) is
   pub places : length is ≤ room
   pub payable : length is ≤ left
 
@@ -113,7 +113,7 @@ unfolding whole_part
 part_all xs even few = take_all (1024 * whole_chunks xs) xs (omega arith)
 
 -- values of the whole chunks are those of the slice
-pub part_gather : {T : Type 0} (xs : List T) (ps : List ℕ) → All (λ p. p < 1024 * whole_chunks xs) ps → gather (whole_part xs) ps ≡ gather xs ps
+pub part_gather : {T : Type 0} (xs : List T) (ps : List ℕ) → AllByRecursion (λ p. p < 1024 * whole_chunks xs) ps → gather (whole_part xs) ps ≡ gather xs ps
 unfolding whole_part
 part_gather xs [] h = refl
 part_gather xs (p ∷ ps) h = ap₂ (λ v vs. v ++ vs) (value_at_take xs (1024 * whole_chunks xs) p h.0) (part_gather xs ps h.1)
@@ -131,7 +131,7 @@ pub ramp_chunks : (start step chunks : ℕ) → chunks_of (ramped start step (10
 ramp_chunks start step chunks = let n = ramp_length start step (1024 * chunks) in omega arith
 
 -- the readings of a ramp at some indices of a chunk
-pub ramp_gathered : (start step chunks c : ℕ) (is : List ℕ) → c < chunks → All (λ i. i < 1024) is → gather (ramped start step (1024 * chunks)) (map (place_in c) is) ≡ map (ramp_place start step c) is
+pub ramp_gathered : (start step chunks c : ℕ) (is : List ℕ) → c < chunks → AllByRecursion (λ i. i < 1024) is → gather (ramped start step (1024 * chunks)) (map (place_in c) is) ≡ map (ramp_place start step c) is
 unfolding ramped
 ramp_gathered start step chunks c is l h =
     gather_made (ramp_at start step) (1024 * chunks) (map (place_in c) is) (All-map (λ p. p < 1024 * chunks) (place_in c) is (All-weaker (λ i. i < 1024) (λ i. place_in c i < 1024 * chunks) (λ i k. omega arith) is h))

@@ -1,6 +1,6 @@
 -- Readings that are unpacked one by one.
 use Rattle.std.proofs.Common.{◌≡◌, ℕ, ◌+◌, ◌-◌, ◌*◌, ◌/◌, ◌%◌, ◌^◌, ◌<◌, ◌≤◌, min, eqb, ltb, List, [], ◌∷◌, ◌++◌, map, length, get_or, take, set, None, sym, refl, ap, ◌∙◌, ap₂, lt_of_lt_of_le, arith, pow_mono}
-use Rattle.std.specs.List.{range_with_len, AllByRecursion as All}
+use Rattle.std.specs.List.{range_with_len, AllByRecursion}
 use Rattle.std.proofs.lemmas.List.FromFn.{get_or-map-range_with_len, length-map-range_with_len, map-range_with_len_more}
 use Rattle.std.proofs.lemmas.List.{length-map, length-take-le, map_more, map_push}
 use Rattle.std.proofs.lemmas.Bool.{eq-eqb, le-ltb, ne_eqb, not_from_true, or_from}
@@ -36,7 +36,7 @@ at_more f g out is k h l =
     let more : map f (map g (take (k + 1) is)) ≡ vs ++ (f (g (get_or is k 0)) ∷ []) = ap (map f) (map_more g is k 0 h) ∙ map_push f (map g (take k is)) (g (get_or is k 0)) in
     fill_more out vs k (f (g (get_or is k 0))) size l ∙ ap (splice out 0) (sym more)
 
-gather_made : (f : ℕ → ℕ) (n : ℕ) (ps : List ℕ) → All (λ p. p < n) ps → gather (map f (range_with_len 0 n)) ps ≡ map f ps
+gather_made : (f : ℕ → ℕ) (n : ℕ) (ps : List ℕ) → AllByRecursion (λ p. p < n) ps → gather (map f (range_with_len 0 n)) ps ≡ map f ps
 gather_made f n [] h = refl
 gather_made f n (p ∷ ps) h =
     let inside : p < length (map f (range_with_len 0 n)) = let size = length-map-range_with_len f 0 n in let l = h.0 in omega arith in
@@ -44,7 +44,7 @@ gather_made f n (p ∷ ps) h =
     ap₂ (λ v vs. v ++ vs) one (gather_made f n ps h.1)
 
 -- readings at some places
-pub packed_gather : (bs : List ℕ) (w n : ℕ) (ps : List ℕ) → All (λ p. p < 1024 * min n 16384) ps → gather (packed_readings bs w n) ps ≡ map (reading_at bs (min w 32)) ps
+pub packed_gather : (bs : List ℕ) (w n : ℕ) (ps : List ℕ) → AllByRecursion (λ p. p < 1024 * min n 16384) ps → gather (packed_readings bs w n) ps ≡ map (reading_at bs (min w 32)) ps
 unfolding packed_readings
 packed_gather bs w n ps h = gather_made (reading_at bs (min w 32)) (1024 * min n 16384) ps h
 

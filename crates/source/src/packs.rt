@@ -1,6 +1,6 @@
 //! Readings of a few bits each, packed in borrowed bytes.
 ghost use Rattle.std.specs.Prelude.{◌≡◌, ◌+◌, ◌<◌, ◌≤◌, map, length, Some, None, Ok, Err};
-ghost use Rattle.std.specs.List.{range_with_len, AllByRecursion as All};
+ghost use Rattle.std.specs.List.{range_with_len, AllByRecursion};
 ghost use Rattle.kernels.specs.Moved.{splice};
 ghost use Rattle.source.specs.Packing.{packed_whole, packed_fault, packed_readings, reading_at, unpacked};
 
@@ -107,7 +107,7 @@ fn unpack_part(bytes: &[u8], width: u32, from: u64, n: usize, output: &mut [u32]
 fn unpack_at(bytes: &[u8], width: u32, from: u64, indices: &[u64], output: &mut [u32])
     requires narrow { width ≤ 32 }
     requires near { from + 1024 ≤ 16777216 }
-    requires inside { All (λ i. i < 1024) indices.now }
+    requires inside { AllByRecursion (λ i. i < 1024) indices.now }
     requires room { length indices.now ≤ length output.old }
     ensures { output.new ≡ splice output.old 0 (map (reading_at bytes.now width) (map (λ i. from + i) indices.now)) }
 {

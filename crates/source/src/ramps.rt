@@ -1,6 +1,6 @@
 //! Readings that are computed.
 ghost use Rattle.std.specs.Prelude.{◌≡◌, ◌*◌, ◌<◌, ◌≤◌, map, length, Some, None, Ok, Err};
-ghost use Rattle.std.specs.List.{AllByRecursion as All};
+ghost use Rattle.std.specs.List.{AllByRecursion};
 ghost use Rattle.kernels.specs.Moved.{splice};
 ghost use Rattle.source.specs.Fetched.{ramp_at, ramp_fault, ramp_place, ramped, whole_chunk};
 ghost use Rattle.source.specs.Parts.{ramp_whole};
@@ -56,7 +56,7 @@ fn write_chunk(start: u64, step: u64, chunk: u64, output: &mut [u64])
 /// Writes the readings at some indices of a chunk.
 fn write_indices(start: u64, step: u64, chunk: u64, indices: &[u64], output: &mut [u64])
     requires few { chunk < 16384 }
-    requires inside { All (λ i. i < 1024) indices.now }
+    requires inside { AllByRecursion (λ i. i < 1024) indices.now }
     requires room { length indices.now ≤ length output.old }
     ensures { output.new ≡ splice output.old 0 (map (ramp_place start step chunk) indices.now) }
 {

@@ -1,5 +1,5 @@
 use Rattle.std.proofs.Common.{◌≡◌, ℕ, ◌+◌, ◌-◌, ◌^◌, ◌<◌, ◌≤◌, [], ◌∷◌, length, get_or, drop, sym, ap, ◌∙◌, subst, arith, rules}
-use Rattle.std.specs.List.{between, AllByRecursion as All}
+use Rattle.std.specs.List.{between, AllByRecursion}
 use Rattle.std.proofs.lemmas.List.Edits.{between_more}
 use Rattle.std.proofs.ByRecursion.{All-append}
 use Rattle.std.proofs.lemmas.Slice.{between_to_end}
@@ -98,6 +98,6 @@ returns c =
     record {
       count = c.loop-next.invariant.0 ∙ ap (λ rs. length (in_span c.args.offset c.args.lo c.args.hi rs)) all;
       next = (c.requires.within, omega arith);
-      done = subst (All (EndsBy c.args.offset c.args.hi)) (all ∙ sym whole) c.loop-next.invariant.1;
+      done = subst (AllByRecursion (EndsBy c.args.offset c.args.hi)) (all ∙ sym whole) c.loop-next.invariant.1;
       past = λ h. absurd (omega arith);
     }

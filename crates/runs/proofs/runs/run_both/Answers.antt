@@ -10,8 +10,8 @@ pub returns : goal.returns
 returns g c =
     let w = g.T.Element.bytes in
     let L = limit_at_width w in
-    let one = c.run-pushes-one in
-    let other = c.run-pushes-other in
+    let one = c.run_pushes-one in
+    let other = c.run_pushes-other in
     let ps = c.args.pushes.now in
     let qs = c.args.pushes2.now in
     let s = new_state (g.D.ChunkDecoder.readings c.args.source) (g.D.ChunkDecoder.allowance c.args.source) c.args.output.now c.args.scratch.now in

@@ -11,8 +11,8 @@ use Rattle.runs.proofs.Noted.{ran, ran_balanced, ran_not, same_state}
 use Rattle.runs.proofs.runs.run_pushes.Goals.{then-notes-n, else-notes-n}
 use Rattle.runs.proofs.runs.run_pushes.Goals as goal
 
-pub push-all-requires : goal.push-all-requires
-push-all-requires g c ls = length-take (length c.args.pushes.now - 0) c.args.notes.now ∙ (let h = c.if-notes-n.false in omega arith)
+pub push_all-requires : goal.push_all-requires
+push_all-requires g c = length-take (length c.args.pushes.now - 0) c.args.notes.now ∙ (let h = c.if-notes-n.false in omega arith)
 
 pub returns : goal.returns
 returns g c =
@@ -30,9 +30,9 @@ returns g c =
     let r : Ran L ps s t before at.notes at.made =
     elim at.branch [
       | then-notes-n w ↦ ran_not L ps s before t at.notes at.made w.if-notes-n.true (told ∙ same_state readings allowance w.filter-is w.output-is w.scratch-is ∙ new) w.notes-is w.made-is
-      | else-notes-n w ↦ ran L ps s before t at.notes w.push-all.new.notes at.made w.if-notes-n.false (told ∙ same_state readings allowance w.filter-is w.output-is w.scratch-is ∙ w.push-all.ensures.last ∙ ap (λ u. after L u ps) new) (w.push-all.ensures.noted ∙ ap (λ u. answers L u ps) new) (w.notes-is ∙ ap (λ n. w.push-all.new.notes ++ drop n before) (let e : length ps - 0 ≡ length ps = omega arith in e)) w.made-is
+      | else-notes-n w ↦ ran L ps s before t at.notes w.push_all.new.notes at.made w.if-notes-n.false (told ∙ same_state readings allowance w.filter-is w.output-is w.scratch-is ∙ w.push_all.ensures.last ∙ ap (λ u. after L u ps) new) (w.push_all.ensures.noted ∙ ap (λ u. answers L u ps) new) (w.notes-is ∙ ap (λ n. w.push_all.new.notes ++ drop n before) (let e : length ps - 0 ≡ length ps = omega arith in e)) w.made-is
     ] in
-    let fresh : Fresh s = record { whole = g.D.ChunkDecoder.whole c.args.source; small = subst (λ n. n < 2 ^ 64) c.left-first.ensures c.left-first.type-inv; room = search rules; none_written = refl; none_paid = refl } in
+    let fresh : Fresh s = record { whole = g.D.ChunkDecoder.whole c.args.source; small = subst (λ n. n < 2 ^ 64) c.left-first.ensures c.left-first.type_inv; room = search rules; none_written = refl; none_paid = refl } in
     record {
       ran = r;
       first = c.left-first.ensures;

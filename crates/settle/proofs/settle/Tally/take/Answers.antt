@@ -1,5 +1,5 @@
 use Rattle.std.proofs.Common.{◌≡◌, ℕ, ◌+◌, ◌/◌, false, List, ◌++◌, length, is_some, Some, None, Option, sym, refl, ap, ◌∙◌, arith}
-use Rattle.std.specs.List.{AllByRecursion as All}
+use Rattle.std.specs.List.{AllByRecursion}
 use Rattle.selection.specs.Refusals.{first}
 use Rattle.settle.specs.Pushes.{past_source}
 use Rattle.settle.specs.Tallies.{Tallied, beyond_fault}
@@ -41,7 +41,7 @@ returns-else-chunk-terms c =
       | then-chunk-self w ↦ turned_next t.limit y chunk w.chunk_price.result z c.requires.ahead w.if-chunk-self.true w.chunk_price.ensures w.self-is
       | else-chunk-self w ↦ turned_same t.limit y chunk z w.if-chunk-self.false w.self-is
     ] in
-    let past : (ps ys : List ℕ) → Tallied t y ps → All (λ p. p / 1024 ≡ chunk) ys → length ys ≡ n → first (past_source t.chunks) (ps ++ ys) ≡ beyond_fault z.beyond =
+    let past : (ps ys : List ℕ) → Tallied t y ps → AllByRecursion (λ p. p / 1024 ≡ chunk) ys → length ys ≡ n → first (past_source t.chunks) (ps ++ ys) ≡ beyond_fault z.beyond =
     λ ps ys h here size. elim c.else-chunk-terms.branch [
       | else-chunk-terms-via-then-chunk-terms+else-is_none w ↦ past_still t y ps ys chunk n h here size c.requires.ahead z.beyond c.requires.some turn.beyond w.if-is_none.ensures
       | else-chunk-terms-via-else-chunk-terms w ↦ past_not t y ps ys chunk n h here size c.requires.ahead c.requires.some w.if-chunk-terms.false ∙ ap beyond_fault (sym turn.beyond)
