@@ -3,9 +3,10 @@
 
 usage: python3 tools/rename.py [--dry]      at the top of the repository
 
-A name is renamed if it is declared in a file of specs/ or proofs/ and begins with a small letter: a capital within
-it and a dash become an underscore. Types and facts, which begin with a capital, stay, and so do fields (a name after
-a dot), the goals and steps that the check names, and everything in strings.
+A name is renamed if it is declared in a file of specs/ or proofs/, or is another name for an import, and begins with
+a small letter: a capital within it and a dash become an underscore. Types and facts, which begin with a capital, stay,
+and so do fields (a name after a dot), the goals and steps that the check names, and everything in strings.
+The library's AllByRecursion goes by its own name, since All is another word of the library now.
 """
 import os
 import re
@@ -13,6 +14,7 @@ import sys
 
 WORD = re.compile(r"(?<![\w'\-◌.«])([A-Za-z_][\w'\-]*)(?![\w'\-◌])")
 HEAD = re.compile(r"^ *(?:(?:pub|abbrev|unfoldable)\s+)*([A-Za-z_][\w'\-]*) :")
+ALIAS = re.compile(r"\w as ([a-z]+[A-Z]\w*)(?=[,}])")
 # names that would fall together with another name
 OTHER = {
     "bit-or": "bit_of_or",
@@ -78,7 +80,12 @@ def main():
         print(len(own), "names")
         return 1 if bad else 0
     for p, t in texts.items():
-        new = WORD.sub(lambda m: own.get(m[1], m[1]), t)
+        here = {m[1]: snake(m[1]) for m in ALIAS.finditer(t)}
+        if "AllByRecursion as All" in t:
+            t = t.replace("AllByRecursion as All", "AllByRecursion")
+            here["All"] = "AllByRecursion"
+        new = WORD.sub(lambda m: here.get(m[1], own.get(m[1], m[1])), t)
+        t = texts[p]
         if new != t:
             open(p, "w", encoding="utf-8").write(new)
     print(len(own), "names")
