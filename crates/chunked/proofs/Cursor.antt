@@ -11,7 +11,7 @@ use Rattle.selection.specs.Selected.{Rising, RunsRise, no_run, range}
 use Rattle.selection.proofs.Listed.{ranges_rise}
 use Rattle.selection.proofs.Rising.{rising_shifted}
 use Rattle.chunked.specs.Spans.{EndsBy, Spans, in_span, span_end, span_start}
-use Rattle.settle.proofs.Settled.{at, run_places}
+use Rattle.settle.proofs.Settled.{run_places}
 use Rattle.chunked.proofs.Cuts.{Cut, Parted, cut, drop_cut}
 use Rattle.chunked.proofs.Spanning.{ends_ahead, ends_rise, runs_at, runs_drop, span_all, span_append, span_below, span_split, span_stops, span_within, starts_after}
 

@@ -1,9 +1,9 @@
 -- What a fetch into a part of the output leaves.
-use Rattle.std.proofs.Common.{◌≡◌, ℕ, ◌+◌, ◌-◌, ◌*◌, ◌<◌, ◌≤◌, List, [], ◌∷◌, ◌++◌, map, length, take, drop, None, sym, refl, ap, ◌∙◌, arith}
+use Rattle.std.proofs.Common.{◌≡◌, ℕ, ◌+◌, ◌-◌, List, ◌++◌, map, length, take, drop, None, ap, ◌∙◌, arith}
 use borrow.Rule.Slice.PartMut.{put_mid}
 use Rattle.std.proofs.lemmas.List.{append-nil, drop_all, drop-drop, length-drop, take_rest}
 use Rattle.kernels.specs.Moved.{gather, splice}
-use Rattle.source.specs.Fetched.{Held, delivered, fetch_fault, fetched, holding, place_in}
+use Rattle.source.specs.Fetched.{delivered, fetch_fault, fetched, holding, place_in}
 use Rattle.source.proofs.Fetches.{fetched_ok}
 
 -- a write from the first place of a part

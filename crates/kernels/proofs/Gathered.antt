@@ -1,9 +1,9 @@
 -- Values at places, and what a write leaves.
-use Rattle.std.proofs.Common.{◌≡◌, ℕ, zero, suc, ◌+◌, ◌-◌, ◌*◌, ◌<◌, ◌≤◌, List, [], ◌∷◌, ◌++◌, map, length, get_or, take, drop, set, sym, refl, ap, ◌∙◌, ap₂, arith}
-use Rattle.std.specs.List.{range_with_len, flat_map, AllByRecursion}
+use Rattle.std.proofs.Common.{◌≡◌, ℕ, zero, suc, ◌+◌, ◌-◌, ◌<◌, ◌≤◌, List, [], ◌∷◌, ◌++◌, map, length, get_or, take, drop, set, sym, refl, ap, ◌∙◌, ap₂, arith}
+use Rattle.std.specs.List.{range_with_len, AllByRecursion}
 use Rattle.std.proofs.lemmas.List.FromFn.{get_or-map-range_with_len, length-map-range_with_len}
 use Rattle.std.proofs.ByRecursion.{All-get_or, All-map, All-take}
-use Rattle.std.proofs.lemmas.List.{append-nil, drop-append-le, drop-take, take-append-drop, take-append-le, take-take, length-map, length-take-le, map_more, take_at, drop_at, append_assoc, drop-drop, drop_more, take_more, set_at, length-take, length-drop, length-append}
+use Rattle.std.proofs.lemmas.List.{append-nil, drop-append-le, drop-take, take-append-drop, take-append-le, take-take, length-map, length-take-le, map_more, take_at, drop_at, append_assoc, drop-drop, drop_more, set_at, length-take, length-drop, length-append}
 use Rattle.kernels.specs.Moved.{value_at, gather, shifted, splice}
 
 -- each place inside gives one value

@@ -4,7 +4,6 @@ use Rattle.std.specs.List.{AllZip, AllByRecursion}
 use Rattle.std.proofs.ByRecursion.{All-weaker, kept_by_passes}
 use Rattle.selection.specs.declared.refusals.Refusal.{Refusal}
 use Rattle.selection.specs.Refusals.{first_of, settled}
-use Rattle.selection.specs.Selected.{positions}
 use Rattle.settle.specs.declared.settle.Push.{Push}
 use Rattle.settle.specs.Pushes.{Answer, answer, declined, misformed, moved, places}
 use Rattle.chunked.specs.Served.{State, next, served, terms_of}

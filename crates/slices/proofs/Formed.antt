@@ -7,7 +7,7 @@ use Rattle.selection.specs.declared.windows.Window.{Window}
 use Rattle.selection.specs.declared.selections.Run.{Run}
 use Rattle.selection.specs.declared.selections.Selection.{Selection}
 use Rattle.selection.specs.declared.selections.Selection.TheVariants.{Bitmap, Indices, Runs}
-use Rattle.selection.specs.Selected.{Rising, RunsRise, extent, indices_fault, long, no_run, picks, positions, range, runs_fault, selection_fault}
+use Rattle.selection.specs.Selected.{Rising, RunsRise, extent, indices_fault, long, no_run, positions, range, runs_fault, selection_fault}
 use Rattle.selection.proofs.Listed.{index_rises, indices_pick, ranges_rise, runs_pick_formed, runs_rise}
 use Rattle.selection.proofs.Objections.{none_each}
 use Rattle.selection.proofs.Rising.{rising_all, rising_counting, rising_kept}

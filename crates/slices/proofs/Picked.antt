@@ -1,5 +1,5 @@
 -- Selected bits: what each form of a selection asks for, what stands against them, and how they look.
-use Rattle.std.proofs.Common.{◌≡◌, ℕ, zero, suc, ◌+◌, ◌-◌, ◌*◌, ◌/◌, ◌%◌, ◌^◌, ◌<◌, Bool, true, false, not, eqb, ltb, List, [], ◌∷◌, ◌++◌, map, length, get_or, drop, Some, None, Err, Option, sym, refl, ap, ◌∙◌, subst, ap₂, arith, shr-shr}
+use Rattle.std.proofs.Common.{◌≡◌, ℕ, zero, suc, ◌+◌, ◌*◌, ◌/◌, ◌%◌, ◌^◌, ◌<◌, Bool, true, false, not, eqb, ltb, List, [], ◌∷◌, ◌++◌, map, length, get_or, drop, Some, None, Err, Option, sym, refl, ap, ◌∙◌, subst, ap₂, arith, shr-shr}
 use Rattle.std.proofs.lemmas.List.{drop_at, get_or_append_left, get_or-map, get_or_past, length-map}
 use Rattle.selection.specs.declared.windows.Window.{Window}
 use Rattle.selection.specs.declared.selections.Selection.{Selection}

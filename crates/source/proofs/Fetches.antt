@@ -1,5 +1,5 @@
 -- What a fetch asks and leaves.
-use Rattle.std.proofs.Common.{◌≡◌, ℕ, zero, suc, ◌+◌, ◌-◌, ◌*◌, ◌/◌, ◌%◌, ◌<◌, ◌≤◌, min, ltb, leb, List, [], ◌∷◌, ◌++◌, map, length, get_or, take, drop, Some, None, Ok, Err, Option, sym, refl, ap, ◌∙◌, ap₂, add_assoc, arith}
+use Rattle.std.proofs.Common.{◌≡◌, ℕ, zero, suc, ◌+◌, ◌-◌, ◌*◌, ◌%◌, ◌<◌, ◌≤◌, List, [], ◌∷◌, ◌++◌, map, length, get_or, take, drop, Some, None, Ok, Err, sym, refl, ap, ◌∙◌, ap₂, add_assoc, arith}
 use Rattle.std.specs.List.{range_with_len, AllByRecursion}
 use Rattle.std.proofs.lemmas.List.{take_all}
 use Rattle.std.proofs.lemmas.List.FromFn.{length-range_with_len, get_or-range_with_len}
@@ -7,15 +7,15 @@ use Rattle.std.proofs.ByRecursion.{All-map, All-weaker, All-get_or, All-from_get
 use Rattle.std.proofs.lemmas.Bool.{leb-false, ltb-false, lt-leb, le-ltb}
 use Rattle.std.proofs.lemmas.Bool.Decides.{nat_tests}
 use Rattle.selection.specs.declared.refusals.Refusal.{Refusal}
-use Rattle.selection.specs.declared.refusals.Refusal.TheVariants.{Output, Beyond, Index, Spent}
-use Rattle.selection.specs.Refusals.{when, or_else, first, first_of, answered, settled}
+use Rattle.selection.specs.declared.refusals.Refusal.TheVariants.{Index}
+use Rattle.selection.specs.Refusals.{first, first_of, answered, settled}
 use Rattle.selection.proofs.Objections.{none_first, none_when, none_each, none_of, when_none, first_none, answered_err, ok_answered}
 use Rattle.selection.proofs.Rising.{rising_all, rising_counting}
 use Rattle.selection.proofs.Filtered.{map_map}
 use Rattle.selection.proofs.Listed.{at_count}
 use Rattle.kernels.specs.Moved.{gather, splice}
 use Rattle.kernels.proofs.Gathered.{gather_counting, gather_made, value_at_take}
-use Rattle.source.specs.Fetched.{Held, Whole, chunks_of, delivered, fetch_fault, fetched, holding, index_fault, objections, place_in, ramp_at, ramp_place, ramped, whole_chunk, whole_chunks, whole_part}
+use Rattle.source.specs.Fetched.{Held, chunks_of, delivered, fetch_fault, fetched, holding, index_fault, objections, place_in, ramp_at, ramp_place, ramped, whole_chunk, whole_chunks, whole_part}
 use Rattle.source.specs.Parts.{ramp_length}
 
 pub index_past : (is : List ℕ) (k : ℕ) → 1024 ≤ get_or is k 0 → index_fault is k ≡ Some (Index k)

@@ -1,8 +1,6 @@
-use Rattle.std.proofs.Common.{◌≡◌, ℕ, ◌+◌, ◌-◌, ◌^◌, ◌<◌, ◌≤◌, ◌++◌, map, length, get_or, take, drop, sym, refl, ap, ◌∙◌, ap₂, arith, rules}
-use Rattle.std.specs.List.{range_with_len}
-use Rattle.std.proofs.lemmas.List.FromFn.{length-range_with_len}
+use Rattle.std.proofs.Common.{◌≡◌, ℕ, ◌+◌, ◌-◌, ◌≤◌, ◌++◌, map, length, get_or, take, drop, sym, ap, ◌∙◌, ap₂, arith, rules}
 use Rattle.std.proofs.ByRecursion.{All-get_or, All-take}
-use Rattle.std.proofs.lemmas.List.{length-drop, length-map, length-take, map-append, take_all, take_rest}
+use Rattle.std.proofs.lemmas.List.{length-drop, length-map, map-append, take_all, take_rest}
 use Rattle.selection.specs.Selected.{no_run}
 use Rattle.kernels.specs.Moved.{gather, shifted, splice}
 use Rattle.chunked.specs.Spans.{Spans, in_span, span_end, span_start, spanned}

@@ -1,4 +1,4 @@
-use Rattle.std.proofs.Common.{◌≡◌, ◌+◌, ◌-◌, ◌*◌, ◌^◌, ◌<◌, min, ◌≢◌, length, sym, ap, ◌∙◌, ap₂, arith, rules, below_more}
+use Rattle.std.proofs.Common.{◌≡◌, ◌+◌, ◌*◌, ◌^◌, ◌<◌, min, ◌≢◌, length, sym, ap, ◌∙◌, ap₂, arith, rules, below_more}
 use lib.Count.{ones}
 use Rattle.std.proofs.lemmas.List.{get_or-set_same, get_or-set_other}
 use Rattle.selection.specs.Selected.{window_from}

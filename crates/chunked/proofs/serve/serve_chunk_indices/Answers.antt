@@ -1,12 +1,12 @@
-use Rattle.std.proofs.Common.{◌≡◌, ℕ, ◌+◌, ◌-◌, ◌*◌, ◌%◌, ◌^◌, ◌<◌, ◌≤◌, ◌++◌, map, length, take, drop, sym, refl, ap, ◌∙◌, arith, rules}
-use Rattle.std.proofs.lemmas.List.{length-drop, length-map, take_at, take_rest}
+use Rattle.std.proofs.Common.{◌*◌, ◌≤◌, map, length, drop, ap, ◌∙◌, arith}
+use Rattle.std.proofs.lemmas.List.{length-drop, length-map, take_rest}
 use Rattle.std.proofs.lemmas.Bool.Decides.{nat_tests}
-use Rattle.kernels.specs.Moved.{Within, gather, shifted, limit_at_width, splice}
+use Rattle.kernels.specs.Moved.{gather, shifted, limit_at_width, splice}
 use Rattle.settle.specs.Pushes.{moved}
 use Rattle.chunked.specs.Served.{storing}
 use Rattle.settle.proofs.Settled.{at}
-use Rattle.chunked.proofs.Fetching.{Fetch, put_rest}
-use Rattle.chunked.proofs.Serving.{Leaves, clear_chunk, clear_sparse, inside, leaves_served, picked_is, sparse, straight, through, written_within}
+use Rattle.chunked.proofs.Fetching.{put_rest}
+use Rattle.chunked.proofs.Serving.{clear_chunk, clear_sparse, inside, leaves_served, picked_is, sparse, straight, through, written_within}
 use Rattle.chunked.proofs.serve.serve_chunk_indices.Goals as goal
 
 pub shift_all-requires : goal.shift_all-requires

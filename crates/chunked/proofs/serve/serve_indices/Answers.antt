@@ -1,4 +1,4 @@
-use Rattle.std.proofs.Common.{◌≡◌, ℕ, ◌+◌, ◌-◌, ◌*◌, ◌/◌, ◌^◌, ◌<◌, ◌≤◌, map, length, get_or, sym, refl, ap, ◌∙◌, arith, rules}
+use Rattle.std.proofs.Common.{◌+◌, ◌*◌, ◌/◌, ◌^◌, ◌<◌, length, get_or, refl, ap, ◌∙◌, arith, rules}
 use Rattle.std.specs.List.{between}
 use Rattle.std.proofs.lemmas.List.{length-map}
 use Rattle.selection.proofs.Rising.{rising_shifted}
@@ -7,7 +7,7 @@ use Rattle.settle.specs.Pushes.{moved}
 use Rattle.chunked.specs.Served.{Servable, offered, serving, storing}
 use Rattle.settle.proofs.Settled.{at}
 use Rattle.chunked.proofs.Cuts.{below_limit, between_at, cut_here}
-use Rattle.chunked.proofs.Serving.{Serves, cut_servable, granted, room_left, serves_all, serves_more, serving_none}
+use Rattle.chunked.proofs.Serving.{cut_servable, granted, room_left, serves_all, serves_more, serving_none}
 use Rattle.chunked.proofs.serve.serve_indices.Goals as goal
 
 pub loop-i-init : goal.loop-i-init

@@ -1,11 +1,11 @@
-use Rattle.std.proofs.Common.{◌≡◌, ℕ, ◌+◌, ◌-◌, ◌*◌, ◌/◌, ◌^◌, ◌<◌, ◌≤◌, min, max, length, get_or, drop, sym, refl, ap, ◌∙◌, subst, arith, rules}
+use Rattle.std.proofs.Common.{◌≡◌, ◌+◌, ◌*◌, ◌/◌, ◌^◌, ◌<◌, max, length, get_or, sym, ap, ◌∙◌, subst, arith, rules}
 use Rattle.std.specs.List.{between}
 use Rattle.selection.specs.Selected.{no_run}
 use Rattle.kernels.specs.Moved.{limit_at_width}
 use Rattle.chunked.specs.Served.{Servable, offered, serving, storing}
 use Rattle.chunked.specs.Spans.{in_span}
 use Rattle.settle.proofs.Settled.{run_places}
-use Rattle.chunked.proofs.Cursor.{cursor_cut, cursor_end, cursor_more, cursor_start, part_is, part_order, part_runs, part_spans, places_rise}
+use Rattle.chunked.proofs.Cursor.{cursor_cut, cursor_end, cursor_more, cursor_start, part_is, part_runs, part_spans, places_rise}
 use Rattle.chunked.proofs.Serving.{cut_servable, granted, room_left, serves_all, serves_more, serving_none}
 use Rattle.chunked.proofs.Spanning.{runs_at}
 use Rattle.chunked.proofs.serve.serve_runs.Goals as goal

@@ -1,4 +1,4 @@
-use Rattle.std.proofs.Common.{◌≡◌, ◌+◌, ◌-◌, ◌^◌, ◌<◌, ◌≤◌, [], length, ap, ◌∙◌, arith, rules}
+use Rattle.std.proofs.Common.{◌≡◌, ◌+◌, ◌^◌, ◌<◌, ◌≤◌, [], length, ap, ◌∙◌, arith, rules}
 use lib.Count.{count_trailing_zeros}
 use Rattle.kernels.specs.Masks.{set_bits}
 use Rattle.kernels.proofs.Masked.{left_done, left_same}

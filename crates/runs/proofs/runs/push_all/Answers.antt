@@ -1,7 +1,7 @@
 use Rattle.std.proofs.Common.{arith}
 use Rattle.kernels.specs.Moved.{limit_at_width}
 use Rattle.chunked.specs.Served.{state_of}
-use Rattle.runs.proofs.Noted.{Upto, upto_all, upto_more, upto_none}
+use Rattle.runs.proofs.Noted.{upto_all, upto_more, upto_none}
 use Rattle.runs.proofs.runs.push_all.Goals as goal
 
 pub loop-k-init : goal.loop-k-init

@@ -1,6 +1,5 @@
-use Rattle.std.proofs.Common.{◌≡◌, sym, refl, ap, ◌∙◌, subst, ap₂}
 use Rattle.kernels.specs.Moved.{limit_at_width}
-use Rattle.runs.specs.Runs.{ended_in, new_state}
+use Rattle.runs.specs.Runs.{new_state}
 use Rattle.runs.proofs.Agreement.{agreement}
 use Rattle.runs.proofs.Fees.{limit_small}
 use Rattle.runs.proofs.Noted.{agree_by, ran_all}

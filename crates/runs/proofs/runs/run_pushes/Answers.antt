@@ -1,8 +1,7 @@
-use Rattle.std.proofs.Common.{◌≡◌, ◌-◌, ◌^◌, ◌<◌, ◌++◌, length, drop, sym, refl, ap, ◌∙◌, subst, ap₂, arith, rules}
+use Rattle.std.proofs.Common.{◌≡◌, ◌-◌, ◌^◌, ◌<◌, ◌++◌, length, drop, refl, ap, ◌∙◌, subst, ap₂, arith, rules}
 use Rattle.std.proofs.lemmas.List.{length-take}
-use Rattle.selection.specs.Refusals.{settled}
 use Rattle.kernels.specs.Moved.{limit_at_width}
-use Rattle.chunked.specs.Served.{State, state_of}
+use Rattle.chunked.specs.Served.{state_of}
 use Rattle.runs.specs.Runs.{after, answers, ended_in, new_state}
 use Rattle.runs.specs.Laws.{Fresh, Ran}
 use Rattle.runs.proofs.Balance.{balance}

@@ -1,6 +1,5 @@
-use Rattle.std.proofs.Common.{◌∙◌, arith}
+use Rattle.std.proofs.Common.{arith}
 use Rattle.std.proofs.lemmas.Bool.Decides.{nat_tests}
-use Rattle.source.specs.Fetched.{index_fault, whole_chunk}
 use Rattle.source.proofs.Fetches.{whole_inside, whole_length}
 use Rattle.source.proofs.decoder.admit_chunk.Goals as goal
 

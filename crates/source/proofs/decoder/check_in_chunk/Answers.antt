@@ -1,5 +1,4 @@
-use Rattle.std.proofs.Common.{length, sym, ap, arith}
-use Rattle.std.proofs.lemmas.Bool.Decides.{nat_tests}
+use Rattle.std.proofs.Common.{length, sym, ap}
 use Rattle.selection.specs.Refusals.{answered}
 use Rattle.selection.proofs.Objections.{count_stands, count_passes, count_ends}
 use Rattle.source.specs.Fetched.{index_fault}

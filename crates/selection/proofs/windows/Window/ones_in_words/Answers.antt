@@ -1,4 +1,4 @@
-use Rattle.std.proofs.Common.{◌≡◌, ◌+◌, ◌-◌, ◌*◌, ◌^◌, ◌<◌, min, ap, ◌∙◌, ap₂, arith, rules}
+use Rattle.std.proofs.Common.{◌≡◌, ◌+◌, ◌*◌, ◌^◌, ◌<◌, min, ap, ◌∙◌, ap₂, arith, rules}
 use lib.Count.{ones}
 use Rattle.selection.specs.Selected.{window_from}
 use Rattle.selection.proofs.Bits.{tally, tally_le}

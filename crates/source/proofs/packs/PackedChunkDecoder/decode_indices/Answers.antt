@@ -1,4 +1,4 @@
-use Rattle.std.proofs.Common.{◌≡◌, ℕ, ◌+◌, ◌-◌, ◌*◌, ◌^◌, ◌<◌, min, map, length, None, sym, refl, ap, ◌∙◌, ap₂, mul_comm, arith, rules}
+use Rattle.std.proofs.Common.{◌≡◌, ℕ, ◌+◌, ◌*◌, ◌^◌, ◌<◌, min, map, length, None, sym, refl, ap, ◌∙◌, ap₂, mul_comm, arith, rules}
 use Rattle.std.proofs.ByRecursion.{All-map, All-weaker}
 use Rattle.kernels.specs.Moved.{gather, splice}
 use Rattle.selection.specs.Refusals.{first_of}

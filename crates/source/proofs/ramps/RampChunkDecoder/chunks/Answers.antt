@@ -1,4 +1,4 @@
-use Rattle.std.proofs.Common.{sym, arith}
+use Rattle.std.proofs.Common.{sym}
 use Rattle.source.proofs.Fetches.{ramp_chunks}
 use Rattle.source.proofs.ramps.RampChunkDecoder.chunks.Goals as goal
 

@@ -1,10 +1,10 @@
-use Rattle.std.proofs.Common.{◌≡◌, ◌-◌, ◌*◌, ◌<◌, ◌≤◌, length, sym, refl, ap, ◌∙◌, arith}
+use Rattle.std.proofs.Common.{◌*◌, length, sym, refl, ap, ◌∙◌, arith}
 use Rattle.std.proofs.lemmas.Result.{err_from_is_err_and}
 use Rattle.selection.specs.Refusals.{first_of}
 use Rattle.selection.proofs.Objections.{answered_ok}
 use Rattle.kernels.specs.Moved.{splice}
-use Rattle.source.specs.Fetched.{holding, objections, ramped, whole_chunk}
-use Rattle.source.proofs.Fetches.{admitted, carried_out, ramp_chunks, ramp_gathered, turned_down, whole_below, whole_length}
+use Rattle.source.specs.Fetched.{holding, objections, ramped}
+use Rattle.source.proofs.Fetches.{admitted, carried_out, ramp_chunks, ramp_gathered, turned_down}
 use Rattle.source.proofs.ramps.RampChunkDecoder.decode_indices.Goals as goal
 
 pub returns-in_err-admit_indices : goal.returns-in_err-admit_indices

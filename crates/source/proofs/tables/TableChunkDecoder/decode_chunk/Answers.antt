@@ -1,4 +1,4 @@
-use Rattle.std.proofs.Common.{◌≡◌, ◌+◌, ◌-◌, ◌*◌, ◌^◌, ◌<◌, ◌≤◌, map, length, take, drop, None, sym, ap, ◌∙◌, mul_comm, arith, rules}
+use Rattle.std.proofs.Common.{◌≡◌, ◌-◌, ◌*◌, ◌^◌, ◌<◌, map, length, take, drop, None, sym, ap, ◌∙◌, mul_comm, arith, rules}
 use Rattle.kernels.specs.Moved.{gather, splice}
 use Rattle.selection.specs.Refusals.{first_of}
 use Rattle.selection.proofs.Objections.{answered_ok}

@@ -1,5 +1,4 @@
-use Rattle.std.proofs.Common.{◌≡◌, ℕ, ◌+◌, ◌-◌, ◌*◌, ◌^◌, ◌<◌, ◌≤◌, map, length, None, sym, refl, ap, ◌∙◌, arith, rules}
-use Rattle.std.specs.List.{AllByRecursion}
+use Rattle.std.proofs.Common.{◌≡◌, ◌*◌, ◌^◌, ◌<◌, map, length, None, sym, refl, ap, ◌∙◌, arith, rules}
 use Rattle.std.proofs.ByRecursion.{All-map, All-weaker}
 use Rattle.kernels.specs.Moved.{Within, gather, shifted, splice}
 use Rattle.selection.specs.Refusals.{first_of}
