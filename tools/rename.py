@@ -5,7 +5,7 @@ usage: python3 tools/rename.py [--dry]      at the top of the repository
 
 A name is renamed if it is declared in a file of specs/ or proofs/, or is another name for an import, and begins with
 a small letter: a capital within it and a dash become an underscore. Types and facts, which begin with a capital, stay,
-and so do fields (a name after a dot), the goals and steps that the check names, and everything in strings.
+and so do fields (a name after a dot) and the goals and steps that the check names. It goes by text.
 The library's AllByRecursion goes by its own name, since All is another word of the library now.
 """
 import os

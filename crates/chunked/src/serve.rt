@@ -385,7 +385,7 @@ fn serve_chunk_bitmap<D: ChunkDecoder>(
     requires order { from ≤ to }
     requires inside { to ≤ window.len }
     requires small { offset ≤ 1024 }
-    requires short { window.len ≤ 16777216 }
+    requires fits { from + offset < 2 ^ 64 }
     ensures count { result ≡ length (kept_between_places (window_bit window.entry) from to) }
     ensures served { storing (D.ChunkDecoder.readings source.new) (D.ChunkDecoder.allowance source.new) output.new scratch.new ≡ serving (limit_at_width D.Item.Element.bytes) (storing (D.ChunkDecoder.readings source.old) (D.ChunkDecoder.allowance source.old) output.old scratch.old) at (map (moved offset) (kept_between_places (window_bit window.entry) from to)) }
 {

@@ -93,7 +93,7 @@ serve_chunk_bitmap-n-requires g c =
       order = omega arith;
       inside = omega arith;
       small = c.requires.small;
-      short = c.requires.short;
+      fits = let short = c.requires.short in omega arith;
     }
 
 pub loop-chunk-preserved : goal.loop-chunk-preserved

@@ -13,20 +13,13 @@ use Rattle.chunked.proofs.serve.serve_chunk_bitmap.Goals as goal
 
 pub overflow_add-up : goal.overflow_add-up
 overflow_add-up g c =
-    let order = c.requires.order in
-    let inside = c.requires.inside in
-    let short = c.requires.short in
-    let small = c.requires.small in
-    let fits : c.args.«from» + c.args.offset < 2 ^ 64 = omega arith in
+    let fits : c.args.«from» + c.args.offset < 2 ^ 64 = c.requires.fits in
     search rules
 
 pub overflow_mul-up : goal.overflow_mul-up
 overflow_mul-up g c =
     let low = c.requires.low in
-    let order = c.requires.order in
-    let inside = c.requires.inside in
-    let short = c.requires.short in
-    let small = c.requires.small in
+    let up = c.requires.fits in
     let fits : c.args.chunk * 1024 < 2 ^ 64 = omega arith in
     search rules
 
