@@ -1,4 +1,4 @@
-use Rattle.std.proofs.Common.{sym, ap, ◌∙◌}
+use Rattle.std.proofs.Common.{sym, ap, ◌∙◌, arith}
 use Rattle.std.proofs.lemmas.Result.{err_from_is_err_and}
 use Rattle.selection.specs.Refusals.{answered}
 use Rattle.selection.specs.Selected.{count_of, extent, selection_fault}
@@ -16,12 +16,16 @@ pub returns-then-len-n : goal.returns-then-len-n
 returns-then-len-n c =
     let s = c.args.selection in
     let n = c.args.n in
-    let apart = lengths_differ (extent s) n (λ e. c.if-len-n.true (c.len.ensures ∙ e)) in
+    let said = c.len.ensures in
+    let test = c.if-len-n.true in
+    let apart = lengths_differ (extent s) n (λ e. omega arith) in
     refused_then (selection_fault s) (unequal (extent s) n) (count_of s) c.in_ok-count.count _ c.in_ok-count.ensures apart ∙ ap (λ o. answered o (count_of s)) (sym (place_tests s n))
 
 pub returns : goal.returns
 returns c =
     let s = c.args.selection in
     let n = c.args.n in
-    let agree = lengths_agree (extent s) n (sym c.len.ensures ∙ c.if-len-n.false) in
+    let said = c.len.ensures in
+    let test = c.if-len-n.false in
+    let agree = lengths_agree (extent s) n (omega arith) in
     passed_both (selection_fault s) (unequal (extent s) n) (count_of s) c.in_ok-count.count c.in_ok-count.ensures agree ∙ ap (λ o. answered o (count_of s)) (sym (place_tests s n))
