@@ -69,7 +69,7 @@ impl<D: ChunkDecoder> ChunkedFilter<D> {
 
     /// What a push is measured against, with an output and a scratch of such lengths.
     fn terms(&self, output: usize, scratch: usize) -> Terms
-        ensures { result ≡ record { limit = (limit_at_width D.Item.Element.bytes); chunks = chunks_of (D.ChunkDecoder.readings self.now.source); left = D.ChunkDecoder.allowance self.now.source; free = output - self.now.written; scratch = scratch } }
+        ensures { result ≡ record { limit = (limit_at_width D.Item.Element.WIDTH); chunks = chunks_of (D.ChunkDecoder.readings self.now.source); left = D.ChunkDecoder.allowance self.now.source; free = output - self.now.written; scratch = scratch } }
     {
         Terms {
             limit: sparse_limit::<D::Item>(),
@@ -90,8 +90,8 @@ impl<D: ChunkDecoder> ChunkedFilter<D> {
         output: &mut [D::Item],
         scratch: &mut [D::Item],
     ) -> Result<Receipt, Refusal>
-        ensures value { result ≡ answer (terms_of (limit_at_width D.Item.Element.bytes) (state_of D.ChunkDecoder.readings D.ChunkDecoder.allowance self.old output.old scratch.old)) (record { offset = offset; selection = Indices indices.entry len }) }
-        ensures after { state_of D.ChunkDecoder.readings D.ChunkDecoder.allowance self.new output.new scratch.new ≡ next (limit_at_width D.Item.Element.bytes) (state_of D.ChunkDecoder.readings D.ChunkDecoder.allowance self.old output.old scratch.old) (record { offset = offset; selection = Indices indices.entry len }) }
+        ensures value { result ≡ answer (terms_of (limit_at_width D.Item.Element.WIDTH) (state_of D.ChunkDecoder.readings D.ChunkDecoder.allowance self.old output.old scratch.old)) (record { offset = offset; selection = Indices indices.entry len }) }
+        ensures after { state_of D.ChunkDecoder.readings D.ChunkDecoder.allowance self.new output.new scratch.new ≡ next (limit_at_width D.Item.Element.WIDTH) (state_of D.ChunkDecoder.readings D.ChunkDecoder.allowance self.old output.old scratch.old) (record { offset = offset; selection = Indices indices.entry len }) }
     {
         let terms = self.terms(output.len(), scratch.len());
         let receipt = settle_indices(&terms, offset, indices, len)?;
@@ -112,8 +112,8 @@ impl<D: ChunkDecoder> ChunkedFilter<D> {
         output: &mut [D::Item],
         scratch: &mut [D::Item],
     ) -> Result<Receipt, Refusal>
-        ensures value { result ≡ answer (terms_of (limit_at_width D.Item.Element.bytes) (state_of D.ChunkDecoder.readings D.ChunkDecoder.allowance self.old output.old scratch.old)) (record { offset = offset; selection = Runs runs.entry len }) }
-        ensures after { state_of D.ChunkDecoder.readings D.ChunkDecoder.allowance self.new output.new scratch.new ≡ next (limit_at_width D.Item.Element.bytes) (state_of D.ChunkDecoder.readings D.ChunkDecoder.allowance self.old output.old scratch.old) (record { offset = offset; selection = Runs runs.entry len }) }
+        ensures value { result ≡ answer (terms_of (limit_at_width D.Item.Element.WIDTH) (state_of D.ChunkDecoder.readings D.ChunkDecoder.allowance self.old output.old scratch.old)) (record { offset = offset; selection = Runs runs.entry len }) }
+        ensures after { state_of D.ChunkDecoder.readings D.ChunkDecoder.allowance self.new output.new scratch.new ≡ next (limit_at_width D.Item.Element.WIDTH) (state_of D.ChunkDecoder.readings D.ChunkDecoder.allowance self.old output.old scratch.old) (record { offset = offset; selection = Runs runs.entry len }) }
     {
         let terms = self.terms(output.len(), scratch.len());
         let receipt = settle_runs(&terms, offset, runs, len)?;
@@ -133,8 +133,8 @@ impl<D: ChunkDecoder> ChunkedFilter<D> {
         output: &mut [D::Item],
         scratch: &mut [D::Item],
     ) -> Result<Receipt, Refusal>
-        ensures value { result ≡ answer (terms_of (limit_at_width D.Item.Element.bytes) (state_of D.ChunkDecoder.readings D.ChunkDecoder.allowance self.old output.old scratch.old)) (record { offset = offset; selection = Bitmap window.entry }) }
-        ensures after { state_of D.ChunkDecoder.readings D.ChunkDecoder.allowance self.new output.new scratch.new ≡ next (limit_at_width D.Item.Element.bytes) (state_of D.ChunkDecoder.readings D.ChunkDecoder.allowance self.old output.old scratch.old) (record { offset = offset; selection = Bitmap window.entry }) }
+        ensures value { result ≡ answer (terms_of (limit_at_width D.Item.Element.WIDTH) (state_of D.ChunkDecoder.readings D.ChunkDecoder.allowance self.old output.old scratch.old)) (record { offset = offset; selection = Bitmap window.entry }) }
+        ensures after { state_of D.ChunkDecoder.readings D.ChunkDecoder.allowance self.new output.new scratch.new ≡ next (limit_at_width D.Item.Element.WIDTH) (state_of D.ChunkDecoder.readings D.ChunkDecoder.allowance self.old output.old scratch.old) (record { offset = offset; selection = Bitmap window.entry }) }
     {
         let terms = self.terms(output.len(), scratch.len());
         let receipt = settle_bitmap(&terms, offset, window)?;
@@ -152,8 +152,8 @@ impl<D: ChunkDecoder> ChunkedFilter<D> {
         output: &mut [D::Item],
         scratch: &mut [D::Item],
     ) -> Result<Receipt, Refusal>
-        ensures value { result ≡ answer (terms_of (limit_at_width D.Item.Element.bytes) (state_of D.ChunkDecoder.readings D.ChunkDecoder.allowance self.old output.old scratch.old)) push.entry }
-        ensures after { state_of D.ChunkDecoder.readings D.ChunkDecoder.allowance self.new output.new scratch.new ≡ next (limit_at_width D.Item.Element.bytes) (state_of D.ChunkDecoder.readings D.ChunkDecoder.allowance self.old output.old scratch.old) push.entry }
+        ensures value { result ≡ answer (terms_of (limit_at_width D.Item.Element.WIDTH) (state_of D.ChunkDecoder.readings D.ChunkDecoder.allowance self.old output.old scratch.old)) push.entry }
+        ensures after { state_of D.ChunkDecoder.readings D.ChunkDecoder.allowance self.new output.new scratch.new ≡ next (limit_at_width D.Item.Element.WIDTH) (state_of D.ChunkDecoder.readings D.ChunkDecoder.allowance self.old output.old scratch.old) push.entry }
     {
         let offset = push.offset;
         match push.selection {

@@ -70,8 +70,8 @@ pub(crate) fn serve_chunk_indices<D: ChunkDecoder>(
     at: usize,
     scratch: &mut [D::Item],
 )
-    requires { Servable (offered (limit_at_width D.Item.Element.bytes) (storing (D.ChunkDecoder.readings source.old) (D.ChunkDecoder.allowance source.old) output.old scratch.old) at) chunk (map (moved offset) indices.now) }
-    ensures { storing (D.ChunkDecoder.readings source.new) (D.ChunkDecoder.allowance source.new) output.new scratch.new ≡ serving (limit_at_width D.Item.Element.bytes) (storing (D.ChunkDecoder.readings source.old) (D.ChunkDecoder.allowance source.old) output.old scratch.old) at (map (moved offset) indices.now) }
+    requires { Servable (offered (limit_at_width D.Item.Element.WIDTH) (storing (D.ChunkDecoder.readings source.old) (D.ChunkDecoder.allowance source.old) output.old scratch.old) at) chunk (map (moved offset) indices.now) }
+    ensures { storing (D.ChunkDecoder.readings source.new) (D.ChunkDecoder.allowance source.new) output.new scratch.new ≡ serving (limit_at_width D.Item.Element.WIDTH) (storing (D.ChunkDecoder.readings source.old) (D.ChunkDecoder.allowance source.old) output.old scratch.old) at (map (moved offset) indices.now) }
 {
     let n = indices.len() as u64;
     let base = chunk * CHUNK;
@@ -115,9 +115,9 @@ pub(crate) fn serve_indices<D: ChunkDecoder>(
 )
     requires small { offset ≤ 1024 }
     requires rising { Rising 0 16777216 indices.now }
-    requires granted { declined (offered (limit_at_width D.Item.Element.bytes) (storing (D.ChunkDecoder.readings source.old) (D.ChunkDecoder.allowance source.old) output.old scratch.old) at) (map (moved offset) indices.now) ≡ None }
+    requires granted { declined (offered (limit_at_width D.Item.Element.WIDTH) (storing (D.ChunkDecoder.readings source.old) (D.ChunkDecoder.allowance source.old) output.old scratch.old) at) (map (moved offset) indices.now) ≡ None }
     requires room { 1024 ≤ length scratch.old }
-    ensures { storing (D.ChunkDecoder.readings source.new) (D.ChunkDecoder.allowance source.new) output.new scratch.new ≡ serving (limit_at_width D.Item.Element.bytes) (storing (D.ChunkDecoder.readings source.old) (D.ChunkDecoder.allowance source.old) output.old scratch.old) at (map (moved offset) indices.now) }
+    ensures { storing (D.ChunkDecoder.readings source.new) (D.ChunkDecoder.allowance source.new) output.new scratch.new ≡ serving (limit_at_width D.Item.Element.WIDTH) (storing (D.ChunkDecoder.readings source.old) (D.ChunkDecoder.allowance source.old) output.old scratch.old) at (map (moved offset) indices.now) }
 {
     let mut i = 0;
     while i < indices.len() {
@@ -247,10 +247,10 @@ pub(crate) fn serve_chunk_runs<D: ChunkDecoder>(
     at: usize,
     scratch: &mut [D::Item],
 )
-    requires servable { Servable (offered (limit_at_width D.Item.Element.bytes) (storing (D.ChunkDecoder.readings source.old) (D.ChunkDecoder.allowance source.old) output.old scratch.old) at) chunk (in_span offset lo ((chunk + 1) * 1024) runs.now) }
+    requires servable { Servable (offered (limit_at_width D.Item.Element.WIDTH) (storing (D.ChunkDecoder.readings source.old) (D.ChunkDecoder.allowance source.old) output.old scratch.old) at) chunk (in_span offset lo ((chunk + 1) * 1024) runs.now) }
     requires runs { AllByRecursion (Spans offset lo ((chunk + 1) * 1024) (chunk * 1024)) runs.now }
     requires count { n ≡ length (in_span offset lo ((chunk + 1) * 1024) runs.now) }
-    ensures { storing (D.ChunkDecoder.readings source.new) (D.ChunkDecoder.allowance source.new) output.new scratch.new ≡ serving (limit_at_width D.Item.Element.bytes) (storing (D.ChunkDecoder.readings source.old) (D.ChunkDecoder.allowance source.old) output.old scratch.old) at (in_span offset lo ((chunk + 1) * 1024) runs.now) }
+    ensures { storing (D.ChunkDecoder.readings source.new) (D.ChunkDecoder.allowance source.new) output.new scratch.new ≡ serving (limit_at_width D.Item.Element.WIDTH) (storing (D.ChunkDecoder.readings source.old) (D.ChunkDecoder.allowance source.old) output.old scratch.old) at (in_span offset lo ((chunk + 1) * 1024) runs.now) }
 {
     let base = chunk * CHUNK;
     let hi = (chunk + 1) * CHUNK;
@@ -279,9 +279,9 @@ pub(crate) fn serve_runs<D: ChunkDecoder>(
 )
     requires small { offset ≤ 1024 }
     requires rising { RunsRise 0 16777216 runs.now }
-    requires granted { declined (offered (limit_at_width D.Item.Element.bytes) (storing (D.ChunkDecoder.readings source.old) (D.ChunkDecoder.allowance source.old) output.old scratch.old) at) (map (moved offset) (flat_map range runs.now)) ≡ None }
+    requires granted { declined (offered (limit_at_width D.Item.Element.WIDTH) (storing (D.ChunkDecoder.readings source.old) (D.ChunkDecoder.allowance source.old) output.old scratch.old) at) (map (moved offset) (flat_map range runs.now)) ≡ None }
     requires room { 1024 ≤ length scratch.old }
-    ensures { storing (D.ChunkDecoder.readings source.new) (D.ChunkDecoder.allowance source.new) output.new scratch.new ≡ serving (limit_at_width D.Item.Element.bytes) (storing (D.ChunkDecoder.readings source.old) (D.ChunkDecoder.allowance source.old) output.old scratch.old) at (map (moved offset) (flat_map range runs.now)) }
+    ensures { storing (D.ChunkDecoder.readings source.new) (D.ChunkDecoder.allowance source.new) output.new scratch.new ≡ serving (limit_at_width D.Item.Element.WIDTH) (storing (D.ChunkDecoder.readings source.old) (D.ChunkDecoder.allowance source.old) output.old scratch.old) at (map (moved offset) (flat_map range runs.now)) }
 {
     let mut done: usize = 0;
     let mut next = 0;
@@ -340,11 +340,11 @@ fn serve_chunk_words<D: ChunkDecoder>(
     at: usize,
     scratch: &mut [D::Item],
 )
-    requires servable { Servable (offered (limit_at_width D.Item.Element.bytes) (storing (D.ChunkDecoder.readings source.old) (D.ChunkDecoder.allowance source.old) output.old scratch.old) at) chunk (map (moved (chunk * 1024 + up)) (mask_positions words.now len)) }
+    requires servable { Servable (offered (limit_at_width D.Item.Element.WIDTH) (storing (D.ChunkDecoder.readings source.old) (D.ChunkDecoder.allowance source.old) output.old scratch.old) at) chunk (map (moved (chunk * 1024 + up)) (mask_positions words.now len)) }
     requires mask { Covers words.now len }
     requires inside { up + len ≤ 1024 }
     requires count { n ≡ length (mask_positions words.now len) }
-    ensures { storing (D.ChunkDecoder.readings source.new) (D.ChunkDecoder.allowance source.new) output.new scratch.new ≡ serving (limit_at_width D.Item.Element.bytes) (storing (D.ChunkDecoder.readings source.old) (D.ChunkDecoder.allowance source.old) output.old scratch.old) at (map (moved (chunk * 1024 + up)) (mask_positions words.now len)) }
+    ensures { storing (D.ChunkDecoder.readings source.new) (D.ChunkDecoder.allowance source.new) output.new scratch.new ≡ serving (limit_at_width D.Item.Element.WIDTH) (storing (D.ChunkDecoder.readings source.old) (D.ChunkDecoder.allowance source.old) output.old scratch.old) at (map (moved (chunk * 1024 + up)) (mask_positions words.now len)) }
 {
     let limit = sparse_limit::<D::Item>();
     if n <= limit {
@@ -379,7 +379,7 @@ fn serve_chunk_bitmap<D: ChunkDecoder>(
     at: usize,
     scratch: &mut [D::Item],
 ) -> usize
-    requires servable { 0 < length (kept_between_places (window_bit window) from to) → Servable (offered (limit_at_width D.Item.Element.bytes) (storing (D.ChunkDecoder.readings source.old) (D.ChunkDecoder.allowance source.old) output.old scratch.old) at) chunk (map (moved offset) (kept_between_places (window_bit window) from to)) }
+    requires servable { 0 < length (kept_between_places (window_bit window) from to) → Servable (offered (limit_at_width D.Item.Element.WIDTH) (storing (D.ChunkDecoder.readings source.old) (D.ChunkDecoder.allowance source.old) output.old scratch.old) at) chunk (map (moved offset) (kept_between_places (window_bit window) from to)) }
     requires low { chunk * 1024 ≤ from + offset }
     requires high { to + offset ≤ chunk * 1024 + 1024 }
     requires order { from ≤ to }
@@ -387,7 +387,7 @@ fn serve_chunk_bitmap<D: ChunkDecoder>(
     requires small { offset ≤ 1024 }
     requires fits { from + offset < 2 ^ 64 }
     ensures count { result ≡ length (kept_between_places (window_bit window.entry) from to) }
-    ensures served { storing (D.ChunkDecoder.readings source.new) (D.ChunkDecoder.allowance source.new) output.new scratch.new ≡ serving (limit_at_width D.Item.Element.bytes) (storing (D.ChunkDecoder.readings source.old) (D.ChunkDecoder.allowance source.old) output.old scratch.old) at (map (moved offset) (kept_between_places (window_bit window.entry) from to)) }
+    ensures served { storing (D.ChunkDecoder.readings source.new) (D.ChunkDecoder.allowance source.new) output.new scratch.new ≡ serving (limit_at_width D.Item.Element.WIDTH) (storing (D.ChunkDecoder.readings source.old) (D.ChunkDecoder.allowance source.old) output.old scratch.old) at (map (moved offset) (kept_between_places (window_bit window.entry) from to)) }
 {
     let len = (to - from) as usize;
     let up = from + offset - chunk * CHUNK;
@@ -411,9 +411,9 @@ pub(crate) fn serve_bitmap<D: ChunkDecoder>(
 )
     requires small { offset ≤ 1024 }
     requires short { window.len ≤ 16777216 }
-    requires granted { declined (offered (limit_at_width D.Item.Element.bytes) (storing (D.ChunkDecoder.readings source.old) (D.ChunkDecoder.allowance source.old) output.old scratch.old) at) (map (moved offset) (window_positions window)) ≡ None }
+    requires granted { declined (offered (limit_at_width D.Item.Element.WIDTH) (storing (D.ChunkDecoder.readings source.old) (D.ChunkDecoder.allowance source.old) output.old scratch.old) at) (map (moved offset) (window_positions window)) ≡ None }
     requires room { 1024 ≤ length scratch.old }
-    ensures { storing (D.ChunkDecoder.readings source.new) (D.ChunkDecoder.allowance source.new) output.new scratch.new ≡ serving (limit_at_width D.Item.Element.bytes) (storing (D.ChunkDecoder.readings source.old) (D.ChunkDecoder.allowance source.old) output.old scratch.old) at (map (moved offset) (window_positions window.entry)) }
+    ensures { storing (D.ChunkDecoder.readings source.new) (D.ChunkDecoder.allowance source.new) output.new scratch.new ≡ serving (limit_at_width D.Item.Element.WIDTH) (storing (D.ChunkDecoder.readings source.old) (D.ChunkDecoder.allowance source.old) output.old scratch.old) at (map (moved offset) (window_positions window.entry)) }
 {
     let mut done: usize = 0;
     for chunk in 0..(offset + window.len).div_ceil(CHUNK) {

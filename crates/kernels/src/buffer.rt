@@ -17,7 +17,7 @@ pub fn compact_words<T: Element>(src: &[T], words: &[u64], selected: usize, dst:
     ensures count { result ≡ length (mask_positions words.now (length src.now)) }
     ensures written { dst.new ≡ compacted src.now (mask_positions words.now (length src.now)) dst.old }
 {
-    let width = T::stated_width();
+    let width = T::WIDTH;
     let bits = MaskBits::Words {
         words,
         len: src.len(),
@@ -41,7 +41,7 @@ pub fn compact_bits<T: Element>(
     ensures count { result ≡ length (selected_by bits.entry) }
     ensures written { dst.new ≡ compacted src.now (selected_by bits.entry) dst.old }
 {
-    if is_dense(T::stated_width(), selected as u128, src.len() as u128) {
+    if is_dense(T::WIDTH, selected as u128, src.len() as u128) {
         return compress_bits(src, bits, dst);
     }
     compact_by_bitmap(src, bits, dst)

@@ -6,11 +6,7 @@ ghost use Rattle.kernels.specs.Moved.{limit_at_width};
 pub trait Element: Copy {
     const WIDTH: usize;
 
-    ghost bytes: { ℕ };
-
-    /// `WIDTH`, in a form that contracts can speak of.
-    fn stated_width() -> usize
-        ensures { result ≡ bytes };
+    ghost WIDTH: { ℕ };
 }
 
 /// What a lift reported: when, which lift, and which code.
@@ -24,68 +20,44 @@ pub struct Event {
 impl Element for u8 {
     const WIDTH: usize = 1;
 
-    ghost bytes = { 1 };
-
-    fn stated_width() -> usize {
-        Self::WIDTH
-    }
+    ghost WIDTH = { 1 };
 }
 
 impl Element for u16 {
     const WIDTH: usize = 2;
 
-    ghost bytes = { 2 };
-
-    fn stated_width() -> usize {
-        Self::WIDTH
-    }
+    ghost WIDTH = { 2 };
 }
 
 impl Element for u32 {
     const WIDTH: usize = 4;
 
-    ghost bytes = { 4 };
-
-    fn stated_width() -> usize {
-        Self::WIDTH
-    }
+    ghost WIDTH = { 4 };
 }
 
 impl Element for f32 {
     const WIDTH: usize = 4;
 
-    ghost bytes = { 4 };
-
-    fn stated_width() -> usize {
-        Self::WIDTH
-    }
+    ghost WIDTH = { 4 };
 }
 
 impl Element for u64 {
     const WIDTH: usize = 8;
 
-    ghost bytes = { 8 };
-
-    fn stated_width() -> usize {
-        Self::WIDTH
-    }
+    ghost WIDTH = { 8 };
 }
 
 impl Element for Event {
     const WIDTH: usize = 16;
 
-    ghost bytes = { 16 };
-
-    fn stated_width() -> usize {
-        Self::WIDTH
-    }
+    ghost WIDTH = { 16 };
 }
 
 /// The most positions of a chunk that are fetched one by one.
 pub fn sparse_limit<T: Element>() -> u64
-    ensures { result ≡ limit_at_width T.Element.bytes }
+    ensures { result ≡ limit_at_width T.Element.WIDTH }
 {
-    match T::stated_width() {
+    match T::WIDTH {
         1 => 16,
         2 => 32,
         4 => 64,

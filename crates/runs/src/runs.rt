@@ -31,8 +31,8 @@ fn push_all<D: ChunkDecoder>(
     notes: &mut [Result<Receipt, Refusal>],
 )
     requires { length notes.old ≡ length pushes.now }
-    ensures noted { notes.new ≡ answers_to (limit_at_width D.Item.Element.bytes) (state_of D.ChunkDecoder.readings D.ChunkDecoder.allowance filter.old output.old scratch.old) pushes.now }
-    ensures last { state_of D.ChunkDecoder.readings D.ChunkDecoder.allowance filter.new output.new scratch.new ≡ after (limit_at_width D.Item.Element.bytes) (state_of D.ChunkDecoder.readings D.ChunkDecoder.allowance filter.old output.old scratch.old) pushes.now }
+    ensures noted { notes.new ≡ answers_to (limit_at_width D.Item.Element.WIDTH) (state_of D.ChunkDecoder.readings D.ChunkDecoder.allowance filter.old output.old scratch.old) pushes.now }
+    ensures last { state_of D.ChunkDecoder.readings D.ChunkDecoder.allowance filter.new output.new scratch.new ≡ after (limit_at_width D.Item.Element.WIDTH) (state_of D.ChunkDecoder.readings D.ChunkDecoder.allowance filter.old output.old scratch.old) pushes.now }
 {
     for (k, push) in pushes.iter().enumerate() {
         notes[k] = filter.push(*push, output, scratch);
@@ -48,10 +48,10 @@ pub fn run_pushes<D: ChunkDecoder>(
     scratch: &mut [D::Item],
     notes: &mut [Result<Receipt, Refusal>],
 ) -> Ended<D>
-    ensures ran { Ran (limit_at_width D.Item.Element.bytes) pushes.now (new_state (D.ChunkDecoder.readings source) (D.ChunkDecoder.allowance source) output.old scratch.old) (ended_in D.ChunkDecoder.readings D.ChunkDecoder.allowance result output.new scratch.new) notes.old notes.new result.made }
+    ensures ran { Ran (limit_at_width D.Item.Element.WIDTH) pushes.now (new_state (D.ChunkDecoder.readings source) (D.ChunkDecoder.allowance source) output.old scratch.old) (ended_in D.ChunkDecoder.readings D.ChunkDecoder.allowance result output.new scratch.new) notes.old notes.new result.made }
     ensures first { result.first ≡ D.ChunkDecoder.allowance source }
     ensures fresh { Fresh (new_state (D.ChunkDecoder.readings source) (D.ChunkDecoder.allowance source) output.old scratch.old) }
-    ensures balanced { notes_fault (length notes.old) (length pushes.now) ≡ None → Balanced (limit_at_width D.Item.Element.bytes) (new_state (D.ChunkDecoder.readings source) (D.ChunkDecoder.allowance source) output.old scratch.old) (ended_in D.ChunkDecoder.readings D.ChunkDecoder.allowance result output.new scratch.new) (take (length pushes.now) notes.new) }
+    ensures balanced { notes_fault (length notes.old) (length pushes.now) ≡ None → Balanced (limit_at_width D.Item.Element.WIDTH) (new_state (D.ChunkDecoder.readings source) (D.ChunkDecoder.allowance source) output.old scratch.old) (ended_in D.ChunkDecoder.readings D.ChunkDecoder.allowance result output.new scratch.new) (take (length pushes.now) notes.new) }
 {
     let first = source.left();
     let mut filter = ChunkedFilter::new(source);
@@ -87,8 +87,8 @@ pub fn run_both<T: Element, D: ChunkDecoder<Item = T>, E: ChunkDecoder<Item = T>
     scratch2: &mut [T],
     notes2: &mut [Result<Receipt, Refusal>],
 ) -> (Ended<D>, Ended<E>)
-    ensures one { Ran (limit_at_width T.Element.bytes) pushes.now (new_state (D.ChunkDecoder.readings source) (D.ChunkDecoder.allowance source) output.old scratch.old) (ended_in D.ChunkDecoder.readings D.ChunkDecoder.allowance result.0 output.new scratch.new) notes.old notes.new result.0.made }
-    ensures other { Ran (limit_at_width T.Element.bytes) pushes2.now (new_state (E.ChunkDecoder.readings source2) (E.ChunkDecoder.allowance source2) output2.old scratch2.old) (ended_in E.ChunkDecoder.readings E.ChunkDecoder.allowance result.1 output2.new scratch2.new) notes2.old notes2.new result.1.made }
+    ensures one { Ran (limit_at_width T.Element.WIDTH) pushes.now (new_state (D.ChunkDecoder.readings source) (D.ChunkDecoder.allowance source) output.old scratch.old) (ended_in D.ChunkDecoder.readings D.ChunkDecoder.allowance result.0 output.new scratch.new) notes.old notes.new result.0.made }
+    ensures other { Ran (limit_at_width T.Element.WIDTH) pushes2.now (new_state (E.ChunkDecoder.readings source2) (E.ChunkDecoder.allowance source2) output2.old scratch2.old) (ended_in E.ChunkDecoder.readings E.ChunkDecoder.allowance result.1 output2.new scratch2.new) notes2.old notes2.new result.1.made }
     ensures firsts { (result.0.first ≡ D.ChunkDecoder.allowance source) × (result.1.first ≡ E.ChunkDecoder.allowance source2) }
     ensures agreed { notes_fault (length notes.old) (length pushes.now) ≡ None → notes_fault (length notes2.old) (length pushes2.now) ≡ None → Alike (new_state (D.ChunkDecoder.readings source) (D.ChunkDecoder.allowance source) output.old scratch.old) (new_state (E.ChunkDecoder.readings source2) (E.ChunkDecoder.allowance source2) output2.old scratch2.old) → AllZip SamePick (formed_ones (new_state (D.ChunkDecoder.readings source) (D.ChunkDecoder.allowance source) output.old scratch.old) pushes.now) (formed_ones (new_state (E.ChunkDecoder.readings source2) (E.ChunkDecoder.allowance source2) output2.old scratch2.old) pushes2.now) → Agree (ended_in D.ChunkDecoder.readings D.ChunkDecoder.allowance result.0 output.new scratch.new) (ended_in E.ChunkDecoder.readings E.ChunkDecoder.allowance result.1 output2.new scratch2.new) pushes.now pushes2.now (take (length pushes.now) notes.new) (take (length pushes2.now) notes2.new) }
 {

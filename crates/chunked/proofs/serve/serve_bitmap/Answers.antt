@@ -18,7 +18,7 @@ pub loop-chunk-init : goal.loop-chunk-init
 loop-chunk-init g c =
     let w = c.args.window in
     let s = storing (g.D.ChunkDecoder.readings c.args.source.now) (g.D.ChunkDecoder.allowance c.args.source.now) c.args.output.now c.args.scratch.now in
-    (record { within = omega arith; state = serving_none (limit_at_width g.D.Item.Element.bytes) s c.args.at; parted = λ k h. absurd (omega arith) }, sym (ap length (kept_start (window_bit w) c.args.offset w.len)))
+    (record { within = omega arith; state = serving_none (limit_at_width g.D.Item.Element.WIDTH) s c.args.at; parted = λ k h. absurd (omega arith) }, sym (ap length (kept_start (window_bit w) c.args.offset w.len)))
 
 pub overflow_add-at : goal.overflow_add-at
 overflow_add-at g c =
@@ -29,7 +29,7 @@ overflow_add-at g c =
     let chunk = c.loop-chunk.chunk in
     let done = c.loop-chunk.done in
     let ps = at offset (kept_between_places q 0 len) in
-    let L = limit_at_width g.D.Item.Element.bytes in
+    let L = limit_at_width g.D.Item.Element.WIDTH in
     let s = storing (g.D.ChunkDecoder.readings c.args.source.now) (g.D.ChunkDecoder.allowance c.args.source.now) c.args.output.now c.args.scratch.now in
     let t = storing (g.D.ChunkDecoder.readings c.loop-chunk.source) (g.D.ChunkDecoder.allowance c.loop-chunk.source) c.loop-chunk.output c.loop-chunk.scratch in
     let up : Rising (offset + 0) (offset + len) ps = rising_shifted offset 0 len (kept_between_places q 0 len) (kept_rises q len) in
@@ -71,7 +71,7 @@ serve_chunk_bitmap-n-requires g c =
     let b : c.chunk_boundary-to.result ≡ boundary offset len (chunk + 1) = c.chunk_boundary-to.ensures in
     let done = c.loop-chunk.done in
     let ps = at offset (kept_between_places q 0 len) in
-    let L = limit_at_width g.D.Item.Element.bytes in
+    let L = limit_at_width g.D.Item.Element.WIDTH in
     let s = storing (g.D.ChunkDecoder.readings c.args.source.now) (g.D.ChunkDecoder.allowance c.args.source.now) c.args.output.now c.args.scratch.now in
     let t = storing (g.D.ChunkDecoder.readings c.loop-chunk.source) (g.D.ChunkDecoder.allowance c.loop-chunk.source) c.loop-chunk.output c.loop-chunk.scratch in
     let up : Rising (offset + 0) (offset + len) ps = rising_shifted offset 0 len (kept_between_places q 0 len) (kept_rises q len) in
@@ -107,7 +107,7 @@ loop-chunk-preserved g c =
     let b : c.chunk_boundary-to.result ≡ boundary offset len (chunk + 1) = c.chunk_boundary-to.ensures in
     let done = c.loop-chunk.done in
     let ps = at offset (kept_between_places q 0 len) in
-    let L = limit_at_width g.D.Item.Element.bytes in
+    let L = limit_at_width g.D.Item.Element.WIDTH in
     let s = storing (g.D.ChunkDecoder.readings c.args.source.now) (g.D.ChunkDecoder.allowance c.args.source.now) c.args.output.now c.args.scratch.now in
     let t = storing (g.D.ChunkDecoder.readings c.loop-chunk.source) (g.D.ChunkDecoder.allowance c.loop-chunk.source) c.loop-chunk.output c.loop-chunk.scratch in
     let up : Rising (offset + 0) (offset + len) ps = rising_shifted offset 0 len (kept_between_places q 0 len) (kept_rises q len) in
@@ -142,4 +142,4 @@ returns g c =
     let all : boundary offset len c.loop-chunk.chunk ≡ len = let small = c.requires.small in omega arith in
     let size : c.loop-chunk.done ≡ length ps = c.loop-chunk.invariant.1 ∙ ap (λ b. length (kept_between_places q 0 b)) all ∙ sym (length-map (kept_between_places q 0 len) (moved offset)) in
     let s = storing (g.D.ChunkDecoder.readings c.args.source.now) (g.D.ChunkDecoder.allowance c.args.source.now) c.args.output.now c.args.scratch.now in
-    serves_all (limit_at_width g.D.Item.Element.bytes) _ _ c.args.at ps c.loop-chunk.done c.loop-chunk.invariant.0 (omega arith) ∙ ap (λ xs. serving (limit_at_width g.D.Item.Element.bytes) s c.args.at (at offset xs)) (kept_whole w)
+    serves_all (limit_at_width g.D.Item.Element.WIDTH) _ _ c.args.at ps c.loop-chunk.done c.loop-chunk.invariant.0 (omega arith) ∙ ap (λ xs. serving (limit_at_width g.D.Item.Element.WIDTH) s c.args.at (at offset xs)) (kept_whole w)

@@ -11,7 +11,7 @@ use Rattle.chunked.proofs.serve.serve_chunk_indices.Goals as goal
 
 pub shift_all-requires : goal.shift_all-requires
 shift_all-requires g c =
-    let L = limit_at_width g.D.Item.Element.bytes in
+    let L = limit_at_width g.D.Item.Element.WIDTH in
     let s = storing (g.D.ChunkDecoder.readings c.args.source.now) (g.D.ChunkDecoder.allowance c.args.source.now) c.args.output.now c.args.scratch.now in
     let most : L ≤ 160 = grind (arith, nat_tests) in
     let limit = c.sparse_limit-limit.ensures in
@@ -20,7 +20,7 @@ shift_all-requires g c =
 
 pub fetch_indices-requires : goal.fetch_indices-requires
 fetch_indices-requires g c =
-    let L = limit_at_width g.D.Item.Element.bytes in
+    let L = limit_at_width g.D.Item.Element.WIDTH in
     let s = storing (g.D.ChunkDecoder.readings c.args.source.now) (g.D.ChunkDecoder.allowance c.args.source.now) c.args.output.now c.args.scratch.now in
     let is = c.args.indices.now in
     let offset = c.args.offset in
@@ -35,7 +35,7 @@ fetch_indices-requires g c =
 
 pub fetch_chunk-requires : goal.fetch_chunk-requires
 fetch_chunk-requires g c =
-    let L = limit_at_width g.D.Item.Element.bytes in
+    let L = limit_at_width g.D.Item.Element.WIDTH in
     let s = storing (g.D.ChunkDecoder.readings c.args.source.now) (g.D.ChunkDecoder.allowance c.args.source.now) c.args.output.now c.args.scratch.now in
     let is = c.args.indices.now in
     let offset = c.args.offset in
@@ -51,7 +51,7 @@ fetch_chunk-requires g c =
 
 pub fetch_chunk-requires-else-n-eq-CHUNK : goal.fetch_chunk-requires-else-n-eq-CHUNK
 fetch_chunk-requires-else-n-eq-CHUNK g c =
-    let L = limit_at_width g.D.Item.Element.bytes in
+    let L = limit_at_width g.D.Item.Element.WIDTH in
     let s = storing (g.D.ChunkDecoder.readings c.args.source.now) (g.D.ChunkDecoder.allowance c.args.source.now) c.args.output.now c.args.scratch.now in
     let is = c.args.indices.now in
     let offset = c.args.offset in
@@ -64,7 +64,7 @@ fetch_chunk-requires-else-n-eq-CHUNK g c =
 
 pub copy_at-requires : goal.copy_at-requires
 copy_at-requires g c =
-    let L = limit_at_width g.D.Item.Element.bytes in
+    let L = limit_at_width g.D.Item.Element.WIDTH in
     let s = storing (g.D.ChunkDecoder.readings c.args.source.now) (g.D.ChunkDecoder.allowance c.args.source.now) c.args.output.now c.args.scratch.now in
     let is = c.args.indices.now in
     let offset = c.args.offset in
@@ -80,7 +80,7 @@ copy_at-requires g c =
 
 pub returns-then-n-limit : goal.returns-then-n-limit
 returns-then-n-limit g c =
-    let L = limit_at_width g.D.Item.Element.bytes in
+    let L = limit_at_width g.D.Item.Element.WIDTH in
     let s = storing (g.D.ChunkDecoder.readings c.args.source.now) (g.D.ChunkDecoder.allowance c.args.source.now) c.args.output.now c.args.scratch.now in
     let is = c.args.indices.now in
     let offset = c.args.offset in
@@ -95,7 +95,7 @@ returns-then-n-limit g c =
 
 pub returns-then-n-eq-CHUNK : goal.returns-then-n-eq-CHUNK
 returns-then-n-eq-CHUNK g c =
-    let L = limit_at_width g.D.Item.Element.bytes in
+    let L = limit_at_width g.D.Item.Element.WIDTH in
     let s = storing (g.D.ChunkDecoder.readings c.args.source.now) (g.D.ChunkDecoder.allowance c.args.source.now) c.args.output.now c.args.scratch.now in
     let is = c.args.indices.now in
     let offset = c.args.offset in
@@ -110,7 +110,7 @@ returns-then-n-eq-CHUNK g c =
 
 pub returns-else-n-eq-CHUNK : goal.returns-else-n-eq-CHUNK
 returns-else-n-eq-CHUNK g c =
-    let L = limit_at_width g.D.Item.Element.bytes in
+    let L = limit_at_width g.D.Item.Element.WIDTH in
     let s = storing (g.D.ChunkDecoder.readings c.args.source.now) (g.D.ChunkDecoder.allowance c.args.source.now) c.args.output.now c.args.scratch.now in
     let is = c.args.indices.now in
     let offset = c.args.offset in

@@ -10,7 +10,7 @@ use Rattle.chunked.proofs.serve.serve_chunk_runs.Goals as goal
 
 pub fetch_indices-requires : goal.fetch_indices-requires
 fetch_indices-requires g c =
-    let L = limit_at_width g.D.Item.Element.bytes in
+    let L = limit_at_width g.D.Item.Element.WIDTH in
     let s = storing (g.D.ChunkDecoder.readings c.args.source.now) (g.D.ChunkDecoder.allowance c.args.source.now) c.args.output.now c.args.scratch.now in
     let chunk = c.args.chunk in
     let at = c.args.at in
@@ -28,7 +28,7 @@ fetch_indices-requires g c =
 
 pub fetch_chunk-requires : goal.fetch_chunk-requires
 fetch_chunk-requires g c =
-    let L = limit_at_width g.D.Item.Element.bytes in
+    let L = limit_at_width g.D.Item.Element.WIDTH in
     let s = storing (g.D.ChunkDecoder.readings c.args.source.now) (g.D.ChunkDecoder.allowance c.args.source.now) c.args.output.now c.args.scratch.now in
     let chunk = c.args.chunk in
     let at = c.args.at in
@@ -47,7 +47,7 @@ fetch_chunk-requires g c =
 
 pub fetch_chunk-requires-else-n-eq-CHUNK : goal.fetch_chunk-requires-else-n-eq-CHUNK
 fetch_chunk-requires-else-n-eq-CHUNK g c =
-    let L = limit_at_width g.D.Item.Element.bytes in
+    let L = limit_at_width g.D.Item.Element.WIDTH in
     let s = storing (g.D.ChunkDecoder.readings c.args.source.now) (g.D.ChunkDecoder.allowance c.args.source.now) c.args.output.now c.args.scratch.now in
     let chunk = c.args.chunk in
     let at = c.args.at in
@@ -63,7 +63,7 @@ fetch_chunk-requires-else-n-eq-CHUNK g c =
 
 pub returns-then-n-limit : goal.returns-then-n-limit
 returns-then-n-limit g c =
-    let L = limit_at_width g.D.Item.Element.bytes in
+    let L = limit_at_width g.D.Item.Element.WIDTH in
     let s = storing (g.D.ChunkDecoder.readings c.args.source.now) (g.D.ChunkDecoder.allowance c.args.source.now) c.args.output.now c.args.scratch.now in
     let chunk = c.args.chunk in
     let at = c.args.at in
@@ -81,7 +81,7 @@ returns-then-n-limit g c =
 
 pub returns-then-n-eq-CHUNK : goal.returns-then-n-eq-CHUNK
 returns-then-n-eq-CHUNK g c =
-    let L = limit_at_width g.D.Item.Element.bytes in
+    let L = limit_at_width g.D.Item.Element.WIDTH in
     let s = storing (g.D.ChunkDecoder.readings c.args.source.now) (g.D.ChunkDecoder.allowance c.args.source.now) c.args.output.now c.args.scratch.now in
     let chunk = c.args.chunk in
     let at = c.args.at in
@@ -99,7 +99,7 @@ returns-then-n-eq-CHUNK g c =
 
 pub returns-else-n-eq-CHUNK : goal.returns-else-n-eq-CHUNK
 returns-else-n-eq-CHUNK g c =
-    let L = limit_at_width g.D.Item.Element.bytes in
+    let L = limit_at_width g.D.Item.Element.WIDTH in
     let s = storing (g.D.ChunkDecoder.readings c.args.source.now) (g.D.ChunkDecoder.allowance c.args.source.now) c.args.output.now c.args.scratch.now in
     let chunk = c.args.chunk in
     let at = c.args.at in

@@ -15,7 +15,7 @@ use Rattle.chunked.proofs.serve.serve_chunk_words.Goals as goal
 
 pub fetch_indices-requires : goal.fetch_indices-requires
 fetch_indices-requires g c =
-    let L = limit_at_width g.D.Item.Element.bytes in
+    let L = limit_at_width g.D.Item.Element.WIDTH in
     let s = storing (g.D.ChunkDecoder.readings c.args.source.now) (g.D.ChunkDecoder.allowance c.args.source.now) c.args.output.now c.args.scratch.now in
     let chunk = c.args.chunk in
     let at = c.args.at in
@@ -37,7 +37,7 @@ fetch_indices-requires g c =
 
 pub fetch_chunk-requires : goal.fetch_chunk-requires
 fetch_chunk-requires g c =
-    let L = limit_at_width g.D.Item.Element.bytes in
+    let L = limit_at_width g.D.Item.Element.WIDTH in
     let s = storing (g.D.ChunkDecoder.readings c.args.source.now) (g.D.ChunkDecoder.allowance c.args.source.now) c.args.output.now c.args.scratch.now in
     let chunk = c.args.chunk in
     let at = c.args.at in
@@ -60,7 +60,7 @@ fetch_chunk-requires g c =
 
 pub fetch_chunk-requires-else-n-eq-CHUNK : goal.fetch_chunk-requires-else-n-eq-CHUNK
 fetch_chunk-requires-else-n-eq-CHUNK g c =
-    let L = limit_at_width g.D.Item.Element.bytes in
+    let L = limit_at_width g.D.Item.Element.WIDTH in
     let s = storing (g.D.ChunkDecoder.readings c.args.source.now) (g.D.ChunkDecoder.allowance c.args.source.now) c.args.output.now c.args.scratch.now in
     let chunk = c.args.chunk in
     let at = c.args.at in
@@ -80,7 +80,7 @@ fetch_chunk-requires-else-n-eq-CHUNK g c =
 
 pub returns-then-n-limit : goal.returns-then-n-limit
 returns-then-n-limit g c =
-    let L = limit_at_width g.D.Item.Element.bytes in
+    let L = limit_at_width g.D.Item.Element.WIDTH in
     let s = storing (g.D.ChunkDecoder.readings c.args.source.now) (g.D.ChunkDecoder.allowance c.args.source.now) c.args.output.now c.args.scratch.now in
     let chunk = c.args.chunk in
     let at = c.args.at in
@@ -102,7 +102,7 @@ returns-then-n-limit g c =
 
 pub returns-then-n-eq-CHUNK : goal.returns-then-n-eq-CHUNK
 returns-then-n-eq-CHUNK g c =
-    let L = limit_at_width g.D.Item.Element.bytes in
+    let L = limit_at_width g.D.Item.Element.WIDTH in
     let s = storing (g.D.ChunkDecoder.readings c.args.source.now) (g.D.ChunkDecoder.allowance c.args.source.now) c.args.output.now c.args.scratch.now in
     let chunk = c.args.chunk in
     let at = c.args.at in
@@ -124,7 +124,7 @@ returns-then-n-eq-CHUNK g c =
 
 pub list_words-requires : goal.list_words-requires
 list_words-requires g c =
-    let L = limit_at_width g.D.Item.Element.bytes in
+    let L = limit_at_width g.D.Item.Element.WIDTH in
     let s = storing (g.D.ChunkDecoder.readings c.args.source.now) (g.D.ChunkDecoder.allowance c.args.source.now) c.args.output.now c.args.scratch.now in
     let chunk = c.args.chunk in
     let at = c.args.at in
@@ -146,7 +146,7 @@ list_words-requires g c =
 
 pub compact_words-requires : goal.compact_words-requires
 compact_words-requires g c =
-    let L = limit_at_width g.D.Item.Element.bytes in
+    let L = limit_at_width g.D.Item.Element.WIDTH in
     let s = storing (g.D.ChunkDecoder.readings c.args.source.now) (g.D.ChunkDecoder.allowance c.args.source.now) c.args.output.now c.args.scratch.now in
     let chunk = c.args.chunk in
     let at = c.args.at in
@@ -176,7 +176,7 @@ compact_words-requires g c =
 pub returns-else-n-eq-CHUNK : goal.returns-else-n-eq-CHUNK
 unfolding compacted
 returns-else-n-eq-CHUNK g c =
-    let L = limit_at_width g.D.Item.Element.bytes in
+    let L = limit_at_width g.D.Item.Element.WIDTH in
     let s = storing (g.D.ChunkDecoder.readings c.args.source.now) (g.D.ChunkDecoder.allowance c.args.source.now) c.args.output.now c.args.scratch.now in
     let chunk = c.args.chunk in
     let at = c.args.at in

@@ -13,7 +13,7 @@ use Rattle.chunked.proofs.serve.serve_indices.Goals as goal
 pub loop-i-init : goal.loop-i-init
 loop-i-init g c =
     let s = storing (g.D.ChunkDecoder.readings c.args.source.now) (g.D.ChunkDecoder.allowance c.args.source.now) c.args.output.now c.args.scratch.now in
-    record { within = omega arith; state = serving_none (limit_at_width g.D.Item.Element.bytes) s c.args.at; parted = λ k h. absurd (omega arith) }
+    record { within = omega arith; state = serving_none (limit_at_width g.D.Item.Element.WIDTH) s c.args.at; parted = λ k h. absurd (omega arith) }
 
 pub overflow_add-chunk : goal.overflow_add-chunk
 overflow_add-chunk g c =
@@ -31,7 +31,7 @@ overflow_mul-chunk g c =
 
 pub overflow_add-at : goal.overflow_add-at
 overflow_add-at g c =
-    let L = limit_at_width g.D.Item.Element.bytes in
+    let L = limit_at_width g.D.Item.Element.WIDTH in
     let s = storing (g.D.ChunkDecoder.readings c.args.source.now) (g.D.ChunkDecoder.allowance c.args.source.now) c.args.output.now c.args.scratch.now in
     let t = storing (g.D.ChunkDecoder.readings c.loop-i.source) (g.D.ChunkDecoder.allowance c.loop-i.source) c.loop-i.output c.loop-i.scratch in
     let is = c.args.indices.now in
@@ -53,7 +53,7 @@ overflow_add-at g c =
 
 pub serve_chunk_indices-requires : goal.serve_chunk_indices-requires
 serve_chunk_indices-requires g c =
-    let L = limit_at_width g.D.Item.Element.bytes in
+    let L = limit_at_width g.D.Item.Element.WIDTH in
     let s = storing (g.D.ChunkDecoder.readings c.args.source.now) (g.D.ChunkDecoder.allowance c.args.source.now) c.args.output.now c.args.scratch.now in
     let t = storing (g.D.ChunkDecoder.readings c.loop-i.source) (g.D.ChunkDecoder.allowance c.loop-i.source) c.loop-i.output c.loop-i.scratch in
     let is = c.args.indices.now in
@@ -72,7 +72,7 @@ serve_chunk_indices-requires g c =
 
 pub loop-i-preserved : goal.loop-i-preserved
 loop-i-preserved g c =
-    let L = limit_at_width g.D.Item.Element.bytes in
+    let L = limit_at_width g.D.Item.Element.WIDTH in
     let s = storing (g.D.ChunkDecoder.readings c.args.source.now) (g.D.ChunkDecoder.allowance c.args.source.now) c.args.output.now c.args.scratch.now in
     let t = storing (g.D.ChunkDecoder.readings c.loop-i.source) (g.D.ChunkDecoder.allowance c.loop-i.source) c.loop-i.output c.loop-i.scratch in
     let is = c.args.indices.now in
@@ -92,7 +92,7 @@ loop-i-preserved g c =
 
 pub loop-i-smaller : goal.loop-i-smaller
 loop-i-smaller g c =
-    let L = limit_at_width g.D.Item.Element.bytes in
+    let L = limit_at_width g.D.Item.Element.WIDTH in
     let s = storing (g.D.ChunkDecoder.readings c.args.source.now) (g.D.ChunkDecoder.allowance c.args.source.now) c.args.output.now c.args.scratch.now in
     let t = storing (g.D.ChunkDecoder.readings c.loop-i.source) (g.D.ChunkDecoder.allowance c.loop-i.source) c.loop-i.output c.loop-i.scratch in
     let is = c.args.indices.now in
@@ -109,4 +109,4 @@ loop-i-smaller g c =
 pub returns : goal.returns
 returns g c =
     let size = length-map c.args.indices.now (moved c.args.offset) in
-    serves_all (limit_at_width g.D.Item.Element.bytes) _ _ c.args.at (at c.args.offset c.args.indices.now) c.loop-i.i c.loop-i.invariant (omega arith)
+    serves_all (limit_at_width g.D.Item.Element.WIDTH) _ _ c.args.at (at c.args.offset c.args.indices.now) c.loop-i.i c.loop-i.invariant (omega arith)

@@ -13,7 +13,7 @@ use Rattle.chunked.proofs.serve.serve_runs.Goals as goal
 pub loop-next-init : goal.loop-next-init
 loop-next-init g c =
     let s = storing (g.D.ChunkDecoder.readings c.args.source.now) (g.D.ChunkDecoder.allowance c.args.source.now) c.args.output.now c.args.scratch.now in
-    (record { within = omega arith; state = serving_none (limit_at_width g.D.Item.Element.bytes) s c.args.at; parted = λ k h. absurd (omega arith) }, cursor_start c.args.offset c.args.runs.now c.requires.rising c.requires.small)
+    (record { within = omega arith; state = serving_none (limit_at_width g.D.Item.Element.WIDTH) s c.args.at; parted = λ k h. absurd (omega arith) }, cursor_start c.args.offset c.args.runs.now c.requires.rising c.requires.small)
 
 pub overflow_add-runs : goal.overflow_add-runs
 overflow_add-runs g c =
@@ -69,7 +69,7 @@ overflow_add-at g c =
     let after = c.runs_below-part.result.next in
     let ps = run_places offset runs in
     let k = cursor_cut offset runs c.requires.rising c.requires.small done next resume cursor here chunk n after which e.count e.next e.done c.loop-next.invariant.0.parted in
-    let L = limit_at_width g.D.Item.Element.bytes in
+    let L = limit_at_width g.D.Item.Element.WIDTH in
     let s = storing (g.D.ChunkDecoder.readings c.args.source.now) (g.D.ChunkDecoder.allowance c.args.source.now) c.args.output.now c.args.scratch.now in
     let t = storing (g.D.ChunkDecoder.readings c.loop-next.source) (g.D.ChunkDecoder.allowance c.loop-next.source) c.loop-next.output c.loop-next.scratch in
     let up = places_rise offset runs c.requires.rising c.requires.small in
@@ -97,7 +97,7 @@ overflow_add-done g c =
     let after = c.runs_below-part.result.next in
     let ps = run_places offset runs in
     let k = cursor_cut offset runs c.requires.rising c.requires.small done next resume cursor here chunk n after which e.count e.next e.done c.loop-next.invariant.0.parted in
-    let L = limit_at_width g.D.Item.Element.bytes in
+    let L = limit_at_width g.D.Item.Element.WIDTH in
     let s = storing (g.D.ChunkDecoder.readings c.args.source.now) (g.D.ChunkDecoder.allowance c.args.source.now) c.args.output.now c.args.scratch.now in
     let t = storing (g.D.ChunkDecoder.readings c.loop-next.source) (g.D.ChunkDecoder.allowance c.loop-next.source) c.loop-next.output c.loop-next.scratch in
     let up = places_rise offset runs c.requires.rising c.requires.small in
@@ -125,7 +125,7 @@ serve_chunk_runs-requires g c =
     let after = c.runs_below-part.result.next in
     let ps = run_places offset runs in
     let k = cursor_cut offset runs c.requires.rising c.requires.small done next resume cursor here chunk n after which e.count e.next e.done c.loop-next.invariant.0.parted in
-    let L = limit_at_width g.D.Item.Element.bytes in
+    let L = limit_at_width g.D.Item.Element.WIDTH in
     let s = storing (g.D.ChunkDecoder.readings c.args.source.now) (g.D.ChunkDecoder.allowance c.args.source.now) c.args.output.now c.args.scratch.now in
     let t = storing (g.D.ChunkDecoder.readings c.loop-next.source) (g.D.ChunkDecoder.allowance c.loop-next.source) c.loop-next.output c.loop-next.scratch in
     let up = places_rise offset runs c.requires.rising c.requires.small in
@@ -158,7 +158,7 @@ loop-next-preserved g c =
     let after = c.runs_below-part.result.next in
     let ps = run_places offset runs in
     let k = cursor_cut offset runs c.requires.rising c.requires.small done next resume cursor here chunk n after which e.count e.next e.done c.loop-next.invariant.0.parted in
-    let L = limit_at_width g.D.Item.Element.bytes in
+    let L = limit_at_width g.D.Item.Element.WIDTH in
     let s = storing (g.D.ChunkDecoder.readings c.args.source.now) (g.D.ChunkDecoder.allowance c.args.source.now) c.args.output.now c.args.scratch.now in
     let t = storing (g.D.ChunkDecoder.readings c.loop-next.source) (g.D.ChunkDecoder.allowance c.loop-next.source) c.loop-next.output c.loop-next.scratch in
     let up = places_rise offset runs c.requires.rising c.requires.small in
@@ -197,4 +197,4 @@ loop-next-smaller g c =
 pub returns : goal.returns
 returns g c =
     let ended = cursor_end c.args.offset c.args.runs.now c.requires.rising c.requires.small c.loop-next.done c.loop-next.next c.loop-next.resume c.loop-next.invariant.1 c.loop-next-test.false in
-    serves_all (limit_at_width g.D.Item.Element.bytes) _ _ c.args.at (run_places c.args.offset c.args.runs.now) c.loop-next.done c.loop-next.invariant.0 ended
+    serves_all (limit_at_width g.D.Item.Element.WIDTH) _ _ c.args.at (run_places c.args.offset c.args.runs.now) c.loop-next.done c.loop-next.invariant.0 ended

@@ -8,7 +8,7 @@ use Rattle.chunked.proofs.serve.serve_runs.Given as goal
 
 abbrev pub invariant-loop-next : goal.invariant-loop-next
 invariant-loop-next g l =
-    Serves (limit_at_width g.D.Item.Element.bytes)
+    Serves (limit_at_width g.D.Item.Element.WIDTH)
     (storing (g.D.ChunkDecoder.readings l.initial.source) (g.D.ChunkDecoder.allowance l.initial.source) l.initial.output l.initial.scratch)
     (storing (g.D.ChunkDecoder.readings l.source) (g.D.ChunkDecoder.allowance l.source) l.output l.scratch)
     l.at (run_places l.offset l.runs) l.done

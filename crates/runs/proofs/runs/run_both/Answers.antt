@@ -7,7 +7,7 @@ use Rattle.runs.proofs.runs.run_both.Goals as goal
 
 pub returns : goal.returns
 returns g c =
-    let w = g.T.Element.bytes in
+    let w = g.T.Element.WIDTH in
     let L = limit_at_width w in
     let one = c.run_pushes-one in
     let other = c.run_pushes-other in

@@ -15,7 +15,7 @@ push_all-requires g c = length-take (length c.args.pushes.now - 0) c.args.notes.
 
 pub returns : goal.returns
 returns g c =
-    let L = limit_at_width g.D.Item.Element.bytes in
+    let L = limit_at_width g.D.Item.Element.WIDTH in
     let readings = g.D.ChunkDecoder.readings in
     let allowance = g.D.ChunkDecoder.allowance in
     let ps = c.args.pushes.now in
@@ -36,5 +36,5 @@ returns g c =
       ran = r;
       first = c.left-first.ensures;
       fresh = fresh;
-      balanced = ran_balanced L ps s before t at.notes at.made r (balance L s ps (limit_small g.D.Item.Element.bytes) fresh);
+      balanced = ran_balanced L ps s before t at.notes at.made r (balance L s ps (limit_small g.D.Item.Element.WIDTH) fresh);
     }

@@ -12,7 +12,7 @@ use Rattle.chunked.proofs.filters.ChunkedFilter.push_bitmap.Goals as goal
 
 pub returns-in_err-receipt : goal.returns-in_err-receipt
 returns-in_err-receipt g c =
-    let L = limit_at_width g.D.Item.Element.bytes in
+    let L = limit_at_width g.D.Item.Element.WIDTH in
     let s = state_of g.D.ChunkDecoder.readings g.D.ChunkDecoder.allowance c.args.self.now c.args.output.now c.args.scratch.now in
     let p : Push = record { offset = c.args.offset; selection = Bitmap c.args.window } in
     let terms : c.terms-terms.result ≡ terms_of L s = c.terms-terms.ensures in
@@ -22,7 +22,7 @@ returns-in_err-receipt g c =
 
 pub serve_bitmap-requires : goal.serve_bitmap-requires
 serve_bitmap-requires g c =
-    let L = limit_at_width g.D.Item.Element.bytes in
+    let L = limit_at_width g.D.Item.Element.WIDTH in
     let s = state_of g.D.ChunkDecoder.readings g.D.ChunkDecoder.allowance c.args.self.now c.args.output.now c.args.scratch.now in
     let p : Push = record { offset = c.args.offset; selection = Bitmap c.args.window } in
     let terms : c.terms-terms.result ≡ terms_of L s = c.terms-terms.ensures in
@@ -38,7 +38,7 @@ serve_bitmap-requires g c =
 
 pub returns : goal.returns
 returns g c =
-    let L = limit_at_width g.D.Item.Element.bytes in
+    let L = limit_at_width g.D.Item.Element.WIDTH in
     let s = state_of g.D.ChunkDecoder.readings g.D.ChunkDecoder.allowance c.args.self.now c.args.output.now c.args.scratch.now in
     let p : Push = record { offset = c.args.offset; selection = Bitmap c.args.window } in
     let terms : c.terms-terms.result ≡ terms_of L s = c.terms-terms.ensures in

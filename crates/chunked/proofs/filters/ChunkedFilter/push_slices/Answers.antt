@@ -11,7 +11,7 @@ use Rattle.chunked.proofs.filters.ChunkedFilter.push_slices.Goals as goal
 
 pub returns-in_err-receipt : goal.returns-in_err-receipt
 returns-in_err-receipt g c =
-    let L = limit_at_width g.D.Item.Element.bytes in
+    let L = limit_at_width g.D.Item.Element.WIDTH in
     let s = state_of g.D.ChunkDecoder.readings g.D.ChunkDecoder.allowance c.args.self.now c.args.output.now c.args.scratch.now in
     let p : Push = record { offset = c.args.offset; selection = Runs c.args.runs c.args.len } in
     let terms : c.terms-terms.result ≡ terms_of L s = c.terms-terms.ensures in
@@ -21,7 +21,7 @@ returns-in_err-receipt g c =
 
 pub serve_runs-requires : goal.serve_runs-requires
 serve_runs-requires g c =
-    let L = limit_at_width g.D.Item.Element.bytes in
+    let L = limit_at_width g.D.Item.Element.WIDTH in
     let s = state_of g.D.ChunkDecoder.readings g.D.ChunkDecoder.allowance c.args.self.now c.args.output.now c.args.scratch.now in
     let p : Push = record { offset = c.args.offset; selection = Runs c.args.runs c.args.len } in
     let terms : c.terms-terms.result ≡ terms_of L s = c.terms-terms.ensures in
@@ -37,7 +37,7 @@ serve_runs-requires g c =
 
 pub returns : goal.returns
 returns g c =
-    let L = limit_at_width g.D.Item.Element.bytes in
+    let L = limit_at_width g.D.Item.Element.WIDTH in
     let s = state_of g.D.ChunkDecoder.readings g.D.ChunkDecoder.allowance c.args.self.now c.args.output.now c.args.scratch.now in
     let p : Push = record { offset = c.args.offset; selection = Runs c.args.runs c.args.len } in
     let terms : c.terms-terms.result ≡ terms_of L s = c.terms-terms.ensures in
