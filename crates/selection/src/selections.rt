@@ -8,7 +8,7 @@ use super::refusals::Refusal;
 use super::windows::Window;
 
 /// The positions from `start` up to and without `end`.
-#[derive(Clone, Copy)]
+#[derive(Clone, Copy, PartialEq, Eq, Debug)]
 pub struct Run {
     pub start: u64,
     pub end: u64,
