@@ -5,6 +5,7 @@ use Rattle.selection.specs.declared.selections.Run.{Run}
 use Rattle.selection.specs.declared.refusals.Refusal.TheVariants.{Order, Past}
 use Rattle.selection.specs.declared.windows.Window.{Window}
 use Rattle.selection.specs.Selected.{index_fault, run_fault, no_run, window_fault, long, short}
+use Rattle.selection.specs.Items.{item_fault}
 use Rattle.std.proofs.lemmas.Bool.{leb-false, ltb-false, or_parts}
 use Rattle.selection.specs.Refusals.{first_of, when}
 use Rattle.selection.proofs.Objections.{none_each, when_none}
@@ -16,11 +17,14 @@ least_index xs k = cond (ltb 0 k) (get_or xs (k - 1) 0 + 1) 0
 abbrev pub least_start : List Run → ℕ → ℕ
 least_start rs k = cond (ltb 0 k) (get_or rs (k - 1) no_run).«end» 0
 
+pub least_after : (rs : List Run) (k : ℕ) → (get_or rs k no_run).«end» ≡ least_start rs (k + 1)
+least_after rs k = let back : k + 1 - 1 ≡ k = omega arith in rw back (grind (arith, nat_tests))
+
 -- what the check of an item says is its fault
 pub index_says : (n : ℕ) (xs : List ℕ) (k least : ℕ) → least ≡ least_index xs k → first_of (when (ltb (get_or xs k 0) least) (Order k) ∷ when (leb n (get_or xs k 0)) (Past k) ∷ []) ≡ index_fault n xs k
 index_says n xs k least is = grind (arith, nat_tests)
 
-pub run_says : (n : ℕ) (rs : List Run) (k least : ℕ) → least ≡ least_start rs k → first_of (when (ltb (get_or rs k no_run).start least || leb (get_or rs k no_run).«end» (get_or rs k no_run).start) (Order k) ∷ when (ltb n (get_or rs k no_run).«end») (Past k) ∷ []) ≡ run_fault n rs k
+pub run_says : (n : ℕ) (rs : List Run) (k least : ℕ) → least ≡ least_start rs k → item_fault (get_or rs k no_run) k least n ≡ run_fault n rs k
 run_says n rs k least is = grind (arith, nat_tests)
 
 -- a sound item
