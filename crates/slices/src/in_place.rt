@@ -88,8 +88,8 @@ fn move_indices<T: Copy>(values: &mut [T], indices: &[u64])
     requires { Rising 0 (length values.old) indices.now }
     ensures { values.new ≡ compacted values.old indices.now values.old }
 {
-    for place in 0..indices.len() {
-        values[place] = values[indices[place] as usize];
+    for (place, index) in indices.iter().enumerate() {
+        values[place] = values[*index as usize];
     }
 }
 
@@ -99,8 +99,7 @@ fn move_runs<T: Copy>(values: &mut [T], runs: &[Run])
     ensures { values.new ≡ compacted values.old (flat_map range runs.now) values.old }
 {
     let mut pos = 0;
-    for k in 0..runs.len() {
-        let run = runs[k];
+    for run in runs {
         let n = (run.end - run.start) as usize;
         move_block(values, run.start as usize, n, pos);
         pos += n;
@@ -114,17 +113,6 @@ fn move_block<T: Copy>(values: &mut [T], from: usize, n: usize, to: usize)
     ensures { values.new ≡ splice values.old to (take n (drop from values.old)) }
 {
     if to != from {
-        move_down(values, from, n, to);
-    }
-}
-
-/// Moves `n` elements down to a place, the first of them first.
-fn move_down<T: Copy>(values: &mut [T], from: usize, n: usize, to: usize)
-    requires down { to ≤ from }
-    requires inside { from + n ≤ length values.old }
-    ensures { values.new ≡ splice values.old to (take n (drop from values.old)) }
-{
-    for k in 0..n {
-        values[to + k] = values[from + k];
+        values.copy_within(from..from + n, to);
     }
 }
