@@ -59,8 +59,8 @@ pub(crate) fn compact<S: WordStep, T: Copy>(src: &[T], bits: MaskBits<'_>, dst: 
     ensures written { dst.new ≡ compacted src.now (selected_by bits.entry) dst.old }
 {
     let mut sink = Sink { places: dst, at: 0 };
-    for k in 0..bits.words() {
-        S::put_word(src, bits.word(k), 64 * k, &mut sink);
+    for (k, word) in bits.iter() {
+        S::put_word(src, word, 64 * k, &mut sink);
     }
     sink.at
 }

@@ -15,4 +15,5 @@ pub use byte_compress::{compress_bits, table_entry};
 pub use compaction::{compact_by_bitmap, compact_runs_by_bitmap};
 pub use elements::{Element, Event, sparse_limit};
 pub use lists::list_words;
-pub use slice::{MaskBits, copy_at, copy_part, copy_to};
+pub use ones::Ones;
+pub use slice::{MaskBits, MaskWords, copy_at, copy_part, copy_to};

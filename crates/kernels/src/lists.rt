@@ -28,8 +28,8 @@ pub fn list_words(bits: MaskBits<'_>, base: u64, out: &mut [u64]) -> usize
     ensures written { out.new ≡ splice out.old 0 (map (shifted base 0) (selected_by bits.entry)) }
 {
     let mut sink = Sink { places: out, at: 0 };
-    for k in 0..bits.words() {
-        list_word(bits.word(k), base + 64 * k as u64, &mut sink);
+    for (k, word) in bits.iter() {
+        list_word(word, base + 64 * k as u64, &mut sink);
     }
     sink.at
 }

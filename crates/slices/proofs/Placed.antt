@@ -1,7 +1,5 @@
 -- What is left of a move to the first places of a slice.
 use Rattle.std.proofs.Common.{◌≡◌, ℕ, zero, suc, ◌+◌, ◌-◌, ◌^◌, ◌<◌, ◌≤◌, List, [], ◌∷◌, ◌++◌, length, get_or, take, drop, set, sym, refl, ap, ◌∙◌, subst, ap₂, arith}
-use lib.Bits.{bit_and}
-use lib.Count.{count_trailing_zeros}
 use lib.Seq.{paste}
 use Rattle.std.specs.List.{copy_within, range_with_len, flat_map}
 use Rattle.std.proofs.lemmas.List.FromFn.{length-range_with_len}
@@ -16,7 +14,7 @@ use Rattle.kernels.specs.Moved.{gather, splice}
 use Rattle.kernels.specs.Masks.{Inside, set_bits}
 use Rattle.kernels.proofs.Gathered.{gather_counting, length_gather}
 use Rattle.kernels.proofs.Masked.{Left, left_done, left_one, left_turn}
-use Rattle.kernels.proofs.SetBits.{all_bits, bits_lowest, counting_inside}
+use Rattle.kernels.proofs.SetBits.{all_bits, bits_next, counting_inside}
 use Rattle.slices.proofs.Formed.{run_at, run_parts}
 
 -- what is left to move gives the whole, and from the place on that comes next all stands as it did
@@ -132,16 +130,16 @@ block_moved xs out a n to l h e =
 pub stands_there : {T : Type 0} (xs : List T) (a n to : ℕ) → to ≡ a → a + n ≤ length xs → xs ≡ splice xs to (take n (drop a xs))
 stands_there xs a n to e l = sym (ap (λ k. splice xs k (take n (drop a xs))) e ∙ splice_self xs a n l)
 
--- the lowest set bit of what is left of a word
-module _ {T : Type 0} {orig cur : List T} {at total : ℕ} {final : List T} (m base : ℕ) (p : 0 < m) (b : m < 2 ^ 64) (h : Held orig cur at (set_bits 64 m base) total final) where
-  first : Held orig cur at ((base + count_trailing_zeros 64 m) ∷ set_bits 64 (bit_and m (m - 1)) base) total final
-  first = held_same ((base + count_trailing_zeros 64 m) ∷ set_bits 64 (bit_and m (m - 1)) base) (bits_lowest 64 m base p b) h
+-- the next set bit of a word
+module _ {T : Type 0} {orig cur : List T} {at total : ℕ} {final : List T} (w v j base : ℕ) (e : set_bits 64 w 0 ≡ j ∷ set_bits 64 v 0) (h : Held orig cur at (set_bits 64 w base) total final) where
+  first : Held orig cur at ((base + j) ∷ set_bits 64 v base) total final
+  first = held_same ((base + j) ∷ set_bits 64 v base) (bits_next w v j base e) h
 
-  pub bit_fits : (at ≤ base + count_trailing_zeros 64 m) × (base + count_trailing_zeros 64 m < length orig)
+  pub bit_fits : (at ≤ base + j) × (base + j < length orig)
   bit_fits = (first.rises.0, first.rises.1)
 
-  pub bit_moved : (y : T) → length cur ≡ length orig → y ≡ get_or cur (base + count_trailing_zeros 64 m) y → Held orig (set cur at y) (at + 1) (set_bits 64 (bit_and m (m - 1)) base) total final
-  bit_moved y n e = held_one (base + count_trailing_zeros 64 m) (set_bits 64 (bit_and m (m - 1)) base) y first n e
+  pub bit_moved : (y : T) → length cur ≡ length orig → y ≡ get_or cur (base + j) y → Held orig (set cur at y) (at + 1) (set_bits 64 v base) total final
+  bit_moved y n f = held_one (base + j) (set_bits 64 v base) y first n f
 
 -- the element at the next index is moved
 pub index_moved : {T : Type 0} {orig cur : List T} {total : ℕ} {final : List T} (is : List ℕ) (k : ℕ) (y : T) → k < length is → Held orig cur k (drop k is) total final → length cur ≡ length orig → y ≡ get_or cur (get_or is k 0) y → Held orig (set cur k y) (k + 1) (drop (k + 1) is) total final

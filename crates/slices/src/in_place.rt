@@ -8,7 +8,7 @@ ghost use Rattle.kernels.specs.Masks.{Masks, compacted, selected_by, set_bits};
 ghost use Rattle.slices.specs.Slices.{place_fault};
 
 use super::admit::admit_in_place;
-use kernels::{Element, MaskBits};
+use kernels::{Element, MaskBits, Ones};
 use selection::{Refusal, Run, Selection};
 
 /// Moves the selected elements of `values` to its first places, in order, and answers how many there are;
@@ -49,8 +49,8 @@ fn move_bits<T: Copy>(values: &mut [T], bits: MaskBits<'_>)
     ensures { values.new ≡ compacted values.old (selected_by bits.entry) values.old }
 {
     let mut pos = 0;
-    for k in 0..bits.words() {
-        pos = move_word(values, bits.word(k), 64 * k, pos);
+    for (k, word) in bits.iter() {
+        pos = move_word(values, word, 64 * k, pos);
     }
 }
 
@@ -74,11 +74,9 @@ fn move_ones<T: Copy>(values: &mut [T], word: u64, base: usize, pos: usize) -> u
     ensures written { values.new ≡ splice values.old pos (gather values.old (set_bits 64 word base)) }
 {
     let mut at = pos;
-    let mut m = word;
-    while m != 0 {
-        values[at] = values[base + m.trailing_zeros() as usize];
+    for place in Ones(word) {
+        values[at] = values[base + place as usize];
         at += 1;
-        m &= m - 1;
     }
     at
 }
