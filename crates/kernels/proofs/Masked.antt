@@ -1,5 +1,5 @@
 -- The positions of a mask, word by word, and what is left of a compaction.
-use Rattle.std.proofs.Common.{◌≡◌, ℕ, zero, suc, ◌+◌, ◌-◌, ◌*◌, ◌/◌, ◌%◌, ◌^◌, ◌<◌, ◌≤◌, Bool, true, false, ◌&&◌, ltb, List, [], ◌∷◌, ◌++◌, length, get_or, set, filter, sym, refl, ap, ◌∙◌, subst, suc-add, arith, Bor}
+use Rattle.std.proofs.Common.{◌≡◌, ℕ, zero, suc, ◌+◌, ◌-◌, ◌*◌, ◌/◌, ◌^◌, ◌<◌, ◌≤◌, Bool, true, false, ◌&&◌, ltb, List, [], ◌∷◌, ◌++◌, length, get_or, set, filter, Some, None, sym, refl, ap, ◌∙◌, subst, suc-add, arith, Bor}
 use Rattle.std.specs.List.{range_with_len, AllByRecursion}
 use Rattle.std.proofs.lemmas.List.FromFn.{length-range_with_len}
 use Rattle.std.proofs.lemmas.List.Elements.{filter-append}
@@ -13,8 +13,10 @@ use Rattle.selection.proofs.Filtered.{kept_fewer_all, kept_same}
 use Rattle.selection.proofs.Rising.{rising_all, rising_counting}
 use Rattle.kernels.specs.declared.slice.MaskBits.{MaskBits}
 use Rattle.kernels.specs.declared.slice.MaskBits.TheVariants.{Words, Window as Framed}
+use Rattle.kernels.specs.declared.slice.MaskWords.{MaskWords}
+use Rattle.kernels.specs.Words.{TakesWord}
 use Rattle.kernels.specs.Moved.{gather, splice, value_at}
-use Rattle.kernels.specs.Masks.{Covers, Inside, Masks, mask_bit, mask_len, mask_positions, selected_by, set_bits, count_of_words, words_bit}
+use Rattle.kernels.specs.Masks.{WordAt, Covers, Inside, Masks, mask_bit, mask_len, mask_positions, selected_by, set_bits, count_of_words, words_bit}
 use Rattle.kernels.proofs.Gathered.{gather_append, length_gather, splice_first, splice_none, splice_splice, value_at_is}
 use Rattle.kernels.proofs.SetBits.{bits_by_test}
 
@@ -128,17 +130,6 @@ left_one {src = src} {out = out} {pos = pos} p qs y h l e =
       written = sym (splice_first out pos y (gather src qs) (omega arith)) ∙ ap (λ v. splice out pos (v ++ gather src qs)) (sym one) ∙ h.written;
     }
 
--- the bits of the word at a place
-pub word_bits : (ws : List ℕ) (k j : ℕ) → j < 64 → bit_of (get_or ws k 0) j ≡ words_bit ws (64 * k + j)
-word_bits ws k j l =
-    let a : k ≡ (64 * k + j) / 64 = omega arith in
-    let b : j ≡ (64 * k + j) % 64 = omega arith in
-    ap (λ x. bit_of (get_or ws x 0) j) a ∙ ap (bit_of (get_or ws ((64 * k + j) / 64) 0)) b
-
-pub words_left : (ws : List ℕ) (n : ℕ) → Covers ws n → left_of (words_bit ws) 0 (length ws) ≡ mask_positions ws n
-unfolding mask_positions
-words_left ws n h = left_all (words_bit ws) n (length ws) h.enough h.clear
-
 pub positions_inside : (ws : List ℕ) (n : ℕ) → Inside n (mask_positions ws n)
 unfolding mask_positions
 positions_inside ws n = kept_inside (words_bit ws) n
@@ -159,6 +150,23 @@ positions_fewer ws n = let h = kept_fewer_all (words_bit ws) (range_with_len 0 n
 pub positions_same : (ws : List ℕ) (q : ℕ → Bool) (n : ℕ) → ((i : ℕ) → i < n → words_bit ws i ≡ q i) → mask_positions ws n ≡ filter q (range_with_len 0 n)
 unfolding mask_positions
 positions_same ws q n h = kept_same (words_bit ws) q (range_with_len 0 n) (All-weaker (λ i. (0 ≤ i) × (i < n)) (λ i. words_bit ws i ≡ q i) (λ i l. h i l.1) (range_with_len 0 n) (rising_all 0 n (range_with_len 0 n) (rising_counting 0 n n (omega arith))))
+
+-- the positions of all words
+pub word_first : (bits : MaskBits) (it : MaskWords) (n : ℕ) → it.next ≡ 0 → Masks bits n → left_of (mask_bit bits) it.next (count_of_words bits) ≡ selected_by bits
+word_first bits it n e h = ap (λ m. left_of (mask_bit bits) m (count_of_words bits)) e ∙ mask_left bits n h
+
+-- those of the word that comes next, and the rest
+pub word_next : (bits : MaskBits) (it it' : MaskWords) (k w : ℕ) → it.bits ≡ bits → TakesWord it (Some (k, w)) it' → (left_of (mask_bit bits) it.next (count_of_words bits) ≡ set_bits 64 w (64 * k) ++ left_of (mask_bit bits) it'.next (count_of_words bits)) × (it'.bits ≡ bits) × (k < count_of_words bits)
+word_next bits it it' k w e h =
+    let q = mask_bit bits in
+    let n = count_of_words bits in
+    let at : WordAt bits k w = subst (λ m. WordAt bits m w) (sym h.0) (subst (λ b. WordAt b it.next w) e h.2) in
+    let below : k < n = subst (λ m. m < n) (sym h.0) (subst (λ b. it.next < count_of_words b) e h.1) in
+    let next : k + 1 ≡ it'.next = ap (λ m. m + 1) h.0 ∙ sym (ap (λ t. t.next) h.3) in
+    (ap (λ m. left_of q m n) (sym h.0) ∙ left_word q k n w below at ∙ ap (λ m. set_bits 64 w (64 * k) ++ left_of q m n) next, ap (λ t. t.bits) h.3 ∙ e, below)
+
+pub word_over : (bits : MaskBits) (it it' : MaskWords) → it.bits ≡ bits → TakesWord it None it' → left_of (mask_bit bits) it.next (count_of_words bits) ≡ []
+word_over bits it it' e h = left_none (mask_bit bits) it.next (count_of_words bits) (subst (λ b. count_of_words b ≤ it.next) e h.0)
 
 -- the bits of a window's word
 pub bits_of_window : (w : Window) (k j : ℕ) → j < 64 → bit_of (word_of w k) j ≡ mask_bit (Framed w) (64 * k + j)

@@ -1,2 +1,4 @@
 pub mod Moved
 pub mod Masks
+pub mod Sinks
+pub mod Words

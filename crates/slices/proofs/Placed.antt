@@ -1,20 +1,20 @@
 -- What is left of a move to the first places of a slice.
 use Rattle.std.proofs.Common.{◌≡◌, ℕ, zero, suc, ◌+◌, ◌-◌, ◌^◌, ◌<◌, ◌≤◌, List, [], ◌∷◌, ◌++◌, length, get_or, take, drop, set, sym, refl, ap, ◌∙◌, subst, ap₂, arith}
-use lib.Bits.{bit_and}
-use lib.Count.{count_trailing_zeros}
-use Rattle.std.specs.List.{range_with_len, flat_map}
+use lib.Seq.{paste}
+use Rattle.std.specs.List.{copy_within, range_with_len, flat_map}
 use Rattle.std.proofs.lemmas.List.FromFn.{length-range_with_len}
 use Rattle.std.proofs.ByRecursion.{All-weaker}
+use Rattle.std.proofs.lemmas.List.Edits.{drop-paste, take-paste}
 use Rattle.std.proofs.lemmas.List.{append_assoc, append-nil, drop_at, drop-drop, drop_more, drop-set-lt, get_or-drop, length-append, length-drop, length-take, take-append-drop}
 use Rattle.selection.specs.declared.selections.Run.{Run}
 use Rattle.selection.specs.Selected.{Rising, RunsRise, no_run, range}
 use Rattle.selection.proofs.Listed.{ranges_rise}
-use Rattle.selection.proofs.Rising.{rising_all, rising_counting, rising_from, rising_length}
+use Rattle.selection.proofs.Rising.{rising_all, rising_from, rising_length}
 use Rattle.kernels.specs.Moved.{gather, splice}
 use Rattle.kernels.specs.Masks.{Inside, set_bits}
 use Rattle.kernels.proofs.Gathered.{gather_counting, length_gather}
 use Rattle.kernels.proofs.Masked.{Left, left_done, left_one, left_turn}
-use Rattle.kernels.proofs.SetBits.{all_bits, bits_lowest, counting_inside}
+use Rattle.kernels.proofs.SetBits.{all_bits, bits_next, counting_inside}
 use Rattle.slices.proofs.Formed.{run_at, run_parts}
 
 -- what is left to move gives the whole, and from the place on that comes next all stands as it did
@@ -112,39 +112,34 @@ splice_self xs at n l =
     ∙ ap (λ zs. take at xs ++ zs) (take-append-drop n (drop at xs))
     ∙ take-append-drop at xs
 
--- a block is to move down
-pub block_all : {T : Type 0} (xs : List T) (a n to : ℕ) → to ≤ a → a + n ≤ length xs → Held xs xs (to + 0) (range_with_len (a + 0) (n - 0)) (to + n) (splice xs to (take n (drop a xs)))
-block_all xs a n to l h =
-    let p : to + 0 ≡ to = omega arith in
-    let q : a + 0 ≡ a = omega arith in
-    let m : n - 0 ≡ n = omega arith in
-    let size : to + length (range_with_len a n) ≡ to + n = ap (λ k. to + k) (length-range_with_len a n) in
-    let up = rising_from a to (length xs) (range_with_len a n) l (rising_counting a n (length xs) h) in
-    rw (p, q, m) (rw (← size, ← gather_counting xs n a) (held_all xs to (range_with_len a n) up))
-
--- one element of it is moved
-pub block_one : {T : Type 0} {orig cur : List T} {total : ℕ} {final : List T} (a n to k : ℕ) (y : T) → k < n → Held orig cur (to + k) (range_with_len (a + k) (n - k)) total final → length cur ≡ length orig → y ≡ get_or cur (a + k) y → Held orig (set cur (to + k) y) (to + (k + 1)) (range_with_len (a + (k + 1)) (n - (k + 1))) total final
-block_one {orig = orig} {cur = cur} {total = total} {final = final} a n to k y l h size e =
-    let more : n - k ≡ suc (n - (k + 1)) = omega arith in
-    let p : to + k + 1 ≡ to + (k + 1) = omega arith in
-    let q : a + k + 1 ≡ a + (k + 1) = omega arith in
-    let next = held_one (a + k) (range_with_len (a + k + 1) (n - (k + 1))) y (held_same ((a + k) ∷ range_with_len (a + k + 1) (n - (k + 1))) (ap (range_with_len (a + k)) more) h) size e in
-    subst (λ i. Held orig (set cur (to + k) y) i (range_with_len (a + (k + 1)) (n - (k + 1))) total final) p (subst (λ i. Held orig (set cur (to + k) y) (to + k + 1) (range_with_len i (n - (k + 1))) total final) q next)
+-- a block that is moved down
+pub block_moved : {T : Type 0} (xs out : List T) (a n to : ℕ) → to ≤ a → a + n ≤ length xs → out ≡ copy_within xs a (a + n) to → out ≡ splice xs to (take n (drop a xs))
+block_moved xs out a n to l h e =
+    let m : a + n - a ≡ n = omega arith in
+    let part = drop a xs in
+    let some : n ≤ length part = simp length-drop (omega arith) in
+    let size : length (take n part) ≡ n = simp (length-take, length-drop) (omega arith) in
+    e
+    ∙ ap (paste xs to part) m
+    ∙ sym (take-append-drop (to + n) (paste xs to part n))
+    ∙ ap₂ (λ us vs. us ++ vs) (take-paste xs to part n (omega arith) some) (drop-paste xs to part n (omega arith) some)
+    ∙ append_assoc (take to xs) (take n part) (drop (to + n) xs)
+    ∙ ap (λ k. take to xs ++ (take n part ++ drop (to + k) xs)) (sym size)
 
 -- a block that stands where it belongs
 pub stands_there : {T : Type 0} (xs : List T) (a n to : ℕ) → to ≡ a → a + n ≤ length xs → xs ≡ splice xs to (take n (drop a xs))
 stands_there xs a n to e l = sym (ap (λ k. splice xs k (take n (drop a xs))) e ∙ splice_self xs a n l)
 
--- the lowest set bit of what is left of a word
-module _ {T : Type 0} {orig cur : List T} {at total : ℕ} {final : List T} (m base : ℕ) (p : 0 < m) (b : m < 2 ^ 64) (h : Held orig cur at (set_bits 64 m base) total final) where
-  first : Held orig cur at ((base + count_trailing_zeros 64 m) ∷ set_bits 64 (bit_and m (m - 1)) base) total final
-  first = held_same ((base + count_trailing_zeros 64 m) ∷ set_bits 64 (bit_and m (m - 1)) base) (bits_lowest 64 m base p b) h
+-- the next set bit of a word
+module _ {T : Type 0} {orig cur : List T} {at total : ℕ} {final : List T} (w v j base : ℕ) (e : set_bits 64 w 0 ≡ j ∷ set_bits 64 v 0) (h : Held orig cur at (set_bits 64 w base) total final) where
+  first : Held orig cur at ((base + j) ∷ set_bits 64 v base) total final
+  first = held_same ((base + j) ∷ set_bits 64 v base) (bits_next w v j base e) h
 
-  pub bit_fits : (at ≤ base + count_trailing_zeros 64 m) × (base + count_trailing_zeros 64 m < length orig)
+  pub bit_fits : (at ≤ base + j) × (base + j < length orig)
   bit_fits = (first.rises.0, first.rises.1)
 
-  pub bit_moved : (y : T) → length cur ≡ length orig → y ≡ get_or cur (base + count_trailing_zeros 64 m) y → Held orig (set cur at y) (at + 1) (set_bits 64 (bit_and m (m - 1)) base) total final
-  bit_moved y n e = held_one (base + count_trailing_zeros 64 m) (set_bits 64 (bit_and m (m - 1)) base) y first n e
+  pub bit_moved : (y : T) → length cur ≡ length orig → y ≡ get_or cur (base + j) y → Held orig (set cur at y) (at + 1) (set_bits 64 v base) total final
+  bit_moved y n f = held_one (base + j) (set_bits 64 v base) y first n f
 
 -- the element at the next index is moved
 pub index_moved : {T : Type 0} {orig cur : List T} {total : ℕ} {final : List T} (is : List ℕ) (k : ℕ) (y : T) → k < length is → Held orig cur k (drop k is) total final → length cur ≡ length orig → y ≡ get_or cur (get_or is k 0) y → Held orig (set cur k y) (k + 1) (drop (k + 1) is) total final

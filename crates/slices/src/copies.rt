@@ -50,8 +50,7 @@ fn copy_runs<T: Copy>(values: &[T], runs: &[Run], out: &mut [T])
     ensures { out.new ≡ compacted values.now (flat_map range runs.now) out.old }
 {
     let mut pos = 0;
-    for k in 0..runs.len() {
-        let run = runs[k];
+    for run in runs {
         let n = (run.end - run.start) as usize;
         copy_to(values, run.start as usize, n, out, pos);
         pos += n;

@@ -8,7 +8,7 @@ ghost use Rattle.kernels.specs.Masks.{Masks, compacted, selected_by, set_bits};
 ghost use Rattle.slices.specs.Slices.{place_fault};
 
 use super::admit::admit_in_place;
-use kernels::{Element, MaskBits};
+use kernels::{Element, MaskBits, Ones};
 use selection::{Refusal, Run, Selection};
 
 /// Moves the selected elements of `values` to its first places, in order, and answers how many there are;
@@ -49,8 +49,8 @@ fn move_bits<T: Copy>(values: &mut [T], bits: MaskBits<'_>)
     ensures { values.new ≡ compacted values.old (selected_by bits.entry) values.old }
 {
     let mut pos = 0;
-    for k in 0..bits.words() {
-        pos = move_word(values, bits.word(k), 64 * k, pos);
+    for (k, word) in bits.iter() {
+        pos = move_word(values, word, 64 * k, pos);
     }
 }
 
@@ -74,11 +74,9 @@ fn move_ones<T: Copy>(values: &mut [T], word: u64, base: usize, pos: usize) -> u
     ensures written { values.new ≡ splice values.old pos (gather values.old (set_bits 64 word base)) }
 {
     let mut at = pos;
-    let mut m = word;
-    while m != 0 {
-        values[at] = values[base + m.trailing_zeros() as usize];
+    for place in Ones(word) {
+        values[at] = values[base + place as usize];
         at += 1;
-        m &= m - 1;
     }
     at
 }
@@ -88,8 +86,8 @@ fn move_indices<T: Copy>(values: &mut [T], indices: &[u64])
     requires { Rising 0 (length values.old) indices.now }
     ensures { values.new ≡ compacted values.old indices.now values.old }
 {
-    for place in 0..indices.len() {
-        values[place] = values[indices[place] as usize];
+    for (place, index) in indices.iter().enumerate() {
+        values[place] = values[*index as usize];
     }
 }
 
@@ -99,8 +97,7 @@ fn move_runs<T: Copy>(values: &mut [T], runs: &[Run])
     ensures { values.new ≡ compacted values.old (flat_map range runs.now) values.old }
 {
     let mut pos = 0;
-    for k in 0..runs.len() {
-        let run = runs[k];
+    for run in runs {
         let n = (run.end - run.start) as usize;
         move_block(values, run.start as usize, n, pos);
         pos += n;
@@ -114,17 +111,6 @@ fn move_block<T: Copy>(values: &mut [T], from: usize, n: usize, to: usize)
     ensures { values.new ≡ splice values.old to (take n (drop from values.old)) }
 {
     if to != from {
-        move_down(values, from, n, to);
-    }
-}
-
-/// Moves `n` elements down to a place, the first of them first.
-fn move_down<T: Copy>(values: &mut [T], from: usize, n: usize, to: usize)
-    requires down { to ≤ from }
-    requires inside { from + n ≤ length values.old }
-    ensures { values.new ≡ splice values.old to (take n (drop from values.old)) }
-{
-    for k in 0..n {
-        values[to + k] = values[from + k];
+        values.copy_within(from..from + n, to);
     }
 }

@@ -9,14 +9,14 @@ pub loop-place-init : goal.loop-place-init
 unfolding compacted
 loop-place-init g c = held_all c.args.values.now 0 c.args.indices.now c.requires
 
-pub offset_bounds-values-indices : goal.offset_bounds-values-indices
-offset_bounds-values-indices g c =
+pub offset_bounds-values-index : goal.offset_bounds-values-index
+offset_bounds-values-index g c =
     let i = (rising_get_d 0 (length c.args.values.now) c.args.indices.now c.loop-place.place c.requires c.loop-place-test.true).1 in
     let inside : get_or c.args.indices.now c.loop-place.place 0 < length c.loop-place.values = omega arith in
     search rules
 
-pub bounds-values-indices : goal.bounds-values-indices
-bounds-values-indices g c =
+pub bounds-values-index : goal.bounds-values-index
+bounds-values-index g c =
     let i = (rising_get_d 0 (length c.args.values.now) c.args.indices.now c.loop-place.place c.requires c.loop-place-test.true).1 in
     omega arith
 
@@ -34,7 +34,7 @@ bounds-values-place g c =
 pub loop-place-preserved : goal.loop-place-preserved
 loop-place-preserved g c =
     let size : length c.loop-place.values ≡ length c.args.values.now = omega arith in
-    index_moved c.args.indices.now c.loop-place.place c.index-values-indices.result c.loop-place-test.true c.loop-place.invariant size c.index-values-indices.is
+    index_moved c.args.indices.now c.loop-place.place c.index-values-index.result c.loop-place-test.true c.loop-place.invariant size c.index-values-index.is
 
 pub returns : goal.returns
 returns g c = (held_done (held_same [] (drop_all c.loop-place.place c.args.indices.now c.loop-place-test.false) c.loop-place.invariant)).1

@@ -5,5 +5,5 @@ use Rattle.kernels.specs.Masks.{compacted}
 use Rattle.slices.proofs.Placed.{Held}
 use Rattle.slices.proofs.in_place.move_runs.Given as goal
 
-abbrev pub invariant-loop-k : goal.invariant-loop-k
-invariant-loop-k g l = Held l.initial.values l.values l.pos (flat_map range (drop l.k l.runs)) (0 + length (flat_map range l.runs)) (compacted l.initial.values (flat_map range l.runs) l.initial.values)
+abbrev pub invariant-loop-run : goal.invariant-loop-run
+invariant-loop-run g l = Held l.initial.values l.values l.pos (flat_map range (drop l.run-index l.runs)) (0 + length (flat_map range l.runs)) (compacted l.initial.values (flat_map range l.runs) l.initial.values)
