@@ -1,18 +1,18 @@
 //! Fetches that nothing stands against any more.
 ghost use Rattle.std.specs.Prelude.{◌≡◌, ℕ, ◌+◌, ◌-◌, ◌*◌, ◌^◌, ◌<◌, ◌≤◌, map, length, drop, None, filter, slice_index, slice_index_or};
 ghost use Rattle.std.specs.List.{range_with_len, between, flat_map, AllByRecursion};
-ghost use Rattle.selection.specs.Selected.{Rising, RunsRise, no_run, range, window_bit, window_from, window_positions};
+ghost use Rattle.selection.specs.Selected.{Rising, RunsRise, no_run, range, selection_fault, window_bit, window_from, window_positions};
 ghost use Rattle.kernels.specs.Masks.{Covers, mask_positions};
 ghost use Rattle.kernels.specs.Moved.{Within, gather, shifted, limit_at_width, splice};
-ghost use Rattle.settle.specs.Pushes.{declined, moved};
+ghost use Rattle.settle.specs.Pushes.{declined, moved, places};
 ghost use Rattle.settle.specs.Bounds.{kept_between_places};
 ghost use Rattle.chunked.specs.Served.{Servable, offered, serving, storing};
 ghost use Rattle.chunked.specs.Spans.{EndsBy, Spans, in_span, span_end, span_start};
 ghost use Rattle.source.specs.Fetched.{fetch_fault, holding, place_in, whole_chunk};
 
 use kernels::{compact_words, copy_at, copy_part, list_words, sparse_limit};
-use selection::{Run, Window};
-use settle::chunk_boundary;
+use selection::{Run, Selection, Window};
+use settle::{Push, chunk_boundary};
 use source::{CHUNK, ChunkDecoder};
 
 /// Fetches a chunk to the places of `output` from `at` on.
@@ -105,7 +105,7 @@ fn end_below(indices: &[u64], from: usize, bound: u64) -> usize
 }
 
 /// Serves ascending indices chunk by chunk, with the output written from `at` on.
-pub(crate) fn serve_indices<D: ChunkDecoder>(
+fn serve_indices<D: ChunkDecoder>(
     source: &mut D,
     offset: u64,
     indices: &[u64],
@@ -269,7 +269,7 @@ pub(crate) fn serve_chunk_runs<D: ChunkDecoder>(
 }
 
 /// Serves ascending runs chunk by chunk, with the output written from `at` on.
-pub(crate) fn serve_runs<D: ChunkDecoder>(
+fn serve_runs<D: ChunkDecoder>(
     source: &mut D,
     offset: u64,
     runs: &[Run],
@@ -401,7 +401,7 @@ fn serve_chunk_bitmap<D: ChunkDecoder>(
 }
 
 /// Serves a bitmap chunk by chunk, with the output written from `at` on.
-pub(crate) fn serve_bitmap<D: ChunkDecoder>(
+fn serve_bitmap<D: ChunkDecoder>(
     source: &mut D,
     offset: u64,
     window: Window<'_>,
@@ -431,5 +431,30 @@ pub(crate) fn serve_bitmap<D: ChunkDecoder>(
             scratch,
         );
         done += n;
+    }
+}
+
+/// Serves a push, in whichever form it comes, with the output written from `at` on.
+pub(crate) fn serve<D: ChunkDecoder>(
+    source: &mut D,
+    push: Push<'_>,
+    output: &mut [D::Item],
+    at: usize,
+    scratch: &mut [D::Item],
+)
+    requires formed { selection_fault push.selection ≡ None }
+    requires small { push.offset ≤ 1024 }
+    requires granted { declined (offered (limit_at_width D.Item.Element.WIDTH) (storing (D.ChunkDecoder.readings source.old) (D.ChunkDecoder.allowance source.old) output.old scratch.old) at) (places push) ≡ None }
+    requires room { 1024 ≤ length scratch.old }
+    ensures { storing (D.ChunkDecoder.readings source.new) (D.ChunkDecoder.allowance source.new) output.new scratch.new ≡ serving (limit_at_width D.Item.Element.WIDTH) (storing (D.ChunkDecoder.readings source.old) (D.ChunkDecoder.allowance source.old) output.old scratch.old) at (places push.entry) }
+{
+    match push.selection {
+        Selection::Bitmap(window) => serve_bitmap(source, push.offset, window, output, at, scratch),
+        Selection::Indices { indices, len: _ } => {
+            serve_indices(source, push.offset, indices, output, at, scratch)
+        }
+        Selection::Runs { runs, len: _ } => {
+            serve_runs(source, push.offset, runs, output, at, scratch)
+        }
     }
 }

@@ -4,5 +4,5 @@
 mod settle;
 
 pub use settle::{
-    Push, Receipt, Terms, chunk_boundary, settle_bitmap, settle_indices, settle_runs,
+    Push, Receipt, Terms, chunk_boundary, settle_bitmap, settle_indices, settle_push, settle_runs,
 };

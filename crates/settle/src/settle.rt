@@ -233,3 +233,14 @@ pub fn settle_bitmap(terms: &Terms, offset: u64, window: Window<'_>) -> Result<R
     let receipt = price_bitmap(terms, offset, window)?;
     terms.grant(receipt.count, receipt.fee)
 }
+
+/// What a push will answer, in whichever form it comes.
+pub fn settle_push(terms: &Terms, push: Push<'_>) -> Result<Receipt, Refusal>
+    ensures { result ≡ answer terms.now push.entry }
+{
+    match push.selection {
+        Selection::Bitmap(window) => settle_bitmap(terms, push.offset, window),
+        Selection::Indices { indices, len } => settle_indices(terms, push.offset, indices, len),
+        Selection::Runs { runs, len } => settle_runs(terms, push.offset, runs, len),
+    }
+}
