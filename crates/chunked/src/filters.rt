@@ -6,7 +6,7 @@ ghost use Rattle.source.specs.Fetched.{chunks_of};
 ghost use Rattle.settle.specs.Pushes.{answer};
 ghost use Rattle.chunked.specs.Served.{next, state_of, terms_of};
 
-use super::serve::serve;
+use super::serve::Delivery;
 use kernels::sparse_limit;
 use selection::{Refusal, Run, Selection, Window};
 use settle::{Push, Receipt, Terms, settle_push};
@@ -140,8 +140,13 @@ impl<D: ChunkDecoder> ChunkedFilter<D> {
     {
         let terms = self.terms(output.len(), scratch.len());
         let receipt = settle_push(&terms, push)?;
-        let at = self.written as usize;
-        serve(&mut self.source, push, output, at, scratch);
+        let mut delivery = Delivery {
+            source: &mut self.source,
+            output,
+            at: self.written as usize,
+            scratch,
+        };
+        delivery.serve(push);
         self.written = self.written.wrapping_add(receipt.count);
         self.fees = self.fees.wrapping_add(receipt.fee);
         Ok(receipt)
