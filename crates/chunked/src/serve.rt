@@ -171,6 +171,7 @@ impl<'a, D: ChunkDecoder> Delivery<'a, D> {
     }
 
     /// Serves ascending runs chunk by chunk.
+    #[tactic(auto, using(crate::proofs::RunWalks::run_bound))]
     fn serve_runs(&mut self, offset: u64, runs: &[Run])
         requires small { offset ≤ 1024 }
         requires rising { RunsRise 0 16777216 runs.now }

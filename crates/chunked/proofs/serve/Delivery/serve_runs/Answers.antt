@@ -13,20 +13,6 @@ overflow_add-runs g c =
     let fits : (get_or c.args.runs.now c.loop-next.next no_run).start + c.args.offset < 2 ^ 64 = b.0 in
     search rules
 
-pub overflow_mul-end : goal.overflow_mul-end
-overflow_mul-end g c =
-    let b = run_bound (limit_at_width g.D.Item.Element.WIDTH) g.D.ChunkDecoder.readings g.D.ChunkDecoder.allowance c.args.self.now c.args.offset c.args.runs.now c.requires.small c.requires.rising c.loop-next.self c.loop-next.next c.loop-next.resume c.loop-next.invariant c.loop-next-test.true in
-    let top = c.max-chunk.ensures in
-    let fits : (c.max-chunk.result / 1024 + 1) * 1024 < 2 ^ 64 = omega arith in
-    search rules
-
-pub runs_below-part-requires : goal.runs_below-part-requires
-runs_below-part-requires g c =
-    let b = run_bound (limit_at_width g.D.Item.Element.WIDTH) g.D.ChunkDecoder.readings g.D.ChunkDecoder.allowance c.args.self.now c.args.offset c.args.runs.now c.requires.small c.requires.rising c.loop-next.self c.loop-next.next c.loop-next.resume c.loop-next.invariant c.loop-next-test.true in
-    let top = c.max-chunk.ensures in
-    let cursor = c.loop-next.invariant.cursor in
-    record { small = c.requires.small; rising = c.requires.rising; within = cursor.within; ahead = cursor.ahead; order = omega arith }
-
 pub invariant_of-piece : goal.invariant_of-piece
 invariant_of-piece g c =
     let e = c.runs_below-part.ensures in
