@@ -16,6 +16,9 @@ least_index xs k = cond (ltb 0 k) (get_or xs (k - 1) 0 + 1) 0
 abbrev pub least_start : List Run → ℕ → ℕ
 least_start rs k = cond (ltb 0 k) (get_or rs (k - 1) no_run).«end» 0
 
+pub least_after : (rs : List Run) (k : ℕ) → (get_or rs k no_run).«end» ≡ least_start rs (k + 1)
+least_after rs k = let back : k + 1 - 1 ≡ k = omega arith in rw back (grind (arith, nat_tests))
+
 -- what the check of an item says is its fault
 pub index_says : (n : ℕ) (xs : List ℕ) (k least : ℕ) → least ≡ least_index xs k → first_of (when (ltb (get_or xs k 0) least) (Order k) ∷ when (leb n (get_or xs k 0)) (Past k) ∷ []) ≡ index_fault n xs k
 index_says n xs k least is = grind (arith, nat_tests)

@@ -1,55 +1,69 @@
 -- Parts of the number that bytes make.
-use Rattle.std.proofs.Common.{◌≡◌, ℕ, suc, ◌+◌, ◌-◌, ◌*◌, ◌/◌, ◌%◌, ◌^◌, ◌<◌, ◌≤◌, min, Bool, ◌&&◌, ltb, ◌⊎◌, List, map, length, get_or, drop, filter, sym, refl, ap, ◌∙◌, subst, ap₂, inl, inr, ⊎_elim, lt_of_lt_of_le, add-zero, mod-eq_of_lt, mul_assoc, arith, pow_pos, pow_mono, pow-add, shr-shr, shr_lt}
+use Rattle.std.proofs.Common.{◌≡◌, ℕ, suc, ◌+◌, ◌-◌, ◌*◌, ◌/◌, ◌%◌, ◌^◌, ◌<◌, ◌≤◌, min, Bool, ◌&&◌, ltb, ◌⊎◌, List, map, [], ◌∷◌, length, get_or, take, drop, fold, reverse, filter, sym, refl, ap, ◌∙◌, subst, ap₂, inl, inr, lt_of_lt_of_le, add-zero, mod-eq_of_lt, mul_assoc, arith, pow_pos, pow_mono, pow-add, shr-shr, shr_lt}
 use native.Mathlib.Nat.{mul-add-div_right, pow-succ'}
 use lib.Bits.{bit_and, bit_or, or_shifted_r}
 use lib.Count.{ones}
 use lib.Pow.{shl-shr, field, mod-mod-pow, mod-pow-add, high, low}
-use Rattle.std.proofs.lemmas.Nat.{and_mask, mod_below, one_shl}
+use Rattle.std.proofs.lemmas.Nat.{and_mask, one_shl, or_shifted}
 use Rattle.std.specs.List.{range_with_len}
 use Rattle.std.proofs.lemmas.List.FromFn.{fill_by_all, get_or-range_with_len, length-range_with_len}
-use Rattle.std.proofs.lemmas.List.{length-drop, length-map}
+use Rattle.std.proofs.lemmas.List.{get_or-take, length-map, take_all}
+use Rattle.std.proofs.lemmas.List.Sums.{fold-append}
+use Rattle.std.proofs.lemmas.Grind.{reverse_onto}
 use Rattle.selection.proofs.Filtered.{kept_map}
-use Rattle.std.proofs.lemmas.Bool.{cases_lt}
 use Rattle.std.proofs.lemmas.Bool.Decides.{nat_tests}
 use Rattle.selection.specs.declared.windows.Window.{Window}
-use Rattle.selection.specs.Selected.{bit, bit_past, bits_from, number_of_bits, window_bit, window_bits, window_from, word_bit, word_of}
+use Rattle.selection.specs.Selected.{bit, bit_of, bit_past, bits_from, number_of_bits, window_bit, window_bits, window_from, word_bit, word_of}
 use Rattle.selection.proofs.Bits.{num_of, tally, bits_num, from_cut, from_lt, from_same, num_drop, num_lt, num_step, ones_from, tally_same, tally_split}
 
--- bits from the first of a byte on
-pub part_num : (bytes : List ℕ) (i n : ℕ) → bits_from bytes (8 * i) n ≡ num_of (drop i bytes) % 2 ^ n
-part_num bytes i n = bits_num bytes (8 * i) n ∙ ap (λ x. x % 2 ^ n) (num_drop bytes i)
+-- the lowest bits
+bits_low : (bytes : List ℕ) (n : ℕ) → bits_from bytes 0 n ≡ num_of bytes % 2 ^ n
+bits_low bytes n = bits_num bytes 0 n ∙ ap (λ x. x % 2 ^ n) (num_drop bytes 0)
 
--- a byte in front of m bytes
-pub part_step : (bytes : List ℕ) (i m : ℕ) → get_or bytes i 0 < 256 → num_of (drop i bytes) % 2 ^ (8 * (m + 1)) ≡ num_of (drop (i + 1) bytes) % 2 ^ (8 * m) * 256 + get_or bytes i 0
-part_step bytes i m h =
-    let e : 8 * (m + 1) ≡ 8 * m + 8 = omega arith in
-    let s = num_step bytes i in
-    let q : num_of (drop i bytes) / 256 ≡ num_of (drop (i + 1) bytes) = omega arith in
-    let r : num_of (drop i bytes) % 256 ≡ get_or bytes i 0 = omega arith in
-    ap (λ t. num_of (drop i bytes) % 2 ^ t) e ∙ mod-pow-add (num_of (drop i bytes)) (8 * m) 8 ∙ ap₂ (λ a b. a % 2 ^ (8 * m) * 256 + b) q r
+-- the first eight bytes
+pub word_num : (bytes ws : List ℕ) → ws ≡ take 8 bytes → ((k : ℕ) → get_or bytes k 0 < 256) → get_or ws 0 0 + get_or ws 1 0 * 256 + get_or ws 2 0 * 65536 + get_or ws 3 0 * 16777216 + get_or ws 4 0 * 4294967296 + get_or ws 5 0 * 1099511627776 + get_or ws 6 0 * 281474976710656 + get_or ws 7 0 * 72057594037927936 ≡ bits_from bytes 0 64
+word_num bytes ws is small =
+    let x0 = byte 0 1 refl (omega arith) in
+    let x1 = byte 1 2 refl (omega arith) in
+    let x2 = byte 2 3 refl (omega arith) in
+    let x3 = byte 3 4 refl (omega arith) in
+    let x4 = byte 4 5 refl (omega arith) in
+    let x5 = byte 5 6 refl (omega arith) in
+    let x6 = byte 6 7 refl (omega arith) in
+    let x7 = byte 7 8 refl (omega arith) in
+    sym (bits_low bytes 64 ∙ omega arith)
+  where
+    byte : (a b : ℕ) → a + 1 ≡ b → a < 8 → (num_of (drop a bytes) ≡ num_of (drop b bytes) * 256 + get_or ws a 0) × (get_or ws a 0 < 256)
+    byte a b e l =
+        let h = small a in
+        let r : get_or bytes a 0 % 256 ≡ get_or bytes a 0 = omega arith in
+        let same : get_or ws a 0 ≡ get_or bytes a 0 = ap (λ xs. get_or xs a 0) is ∙ get_or-take 8 bytes a 0 l in
+        (num_step bytes a ∙ ap₂ (λ k x. num_of (drop k bytes) * 256 + x) e (r ∙ sym same), omega arith)
+
+-- a few bytes, put together from the last on
+pub few_num : (bytes : List ℕ) → length bytes ≤ 8 → ((k : ℕ) → get_or bytes k 0 < 256) → fold (λ all byte. bit_or (all * 2 ^ 8 % 2 ^ 64) byte) 0 (reverse bytes) ≡ num_of bytes
+few_num [] few small = refl
+few_num (b ∷ bs) few small =
+    let h = small 0 in
+    let rest = few_num bs (omega arith) (λ k. small (suc k)) in
+    let less : num_of bs < 2 ^ 56 = lt_of_lt_of_le (num_lt bs) (pow_mono {j = 56} (omega arith)) in
+    let room : num_of bs * 2 ^ 8 % 2 ^ 64 ≡ num_of bs * 2 ^ 8 = omega arith in
+    let low : b % 256 ≡ b = omega arith in
+    ap (fold (λ all byte. bit_or (all * 2 ^ 8 % 2 ^ 64) byte) 0) (reverse_onto bs b [])
+    ∙ fold-append (λ all byte. bit_or (all * 2 ^ 8 % 2 ^ 64) byte) 0 (reverse bs) (b ∷ [])
+    ∙ ap (λ x. bit_or (x * 2 ^ 8 % 2 ^ 64) b) rest
+    ∙ ap (λ x. bit_or x b) room
+    ∙ or_shifted (num_of bs) 8 b h
+    ∙ ap (λ x. num_of bs * 256 + x) (sym low)
+
+pub few_word : (bytes : List ℕ) → length bytes ≤ 8 → ((k : ℕ) → get_or bytes k 0 < 256) → fold (λ all byte. bit_or (all * 2 ^ 8 % 2 ^ 64) byte) 0 (reverse bytes) ≡ bits_from bytes 0 64
+few_word bytes few small =
+    let less : num_of bytes < 2 ^ 64 = lt_of_lt_of_le (num_lt bytes) (pow_mono {j = 64} (omega arith)) in
+    few_num bytes few small ∙ sym (bits_low bytes 64 ∙ mod-eq_of_lt less)
 
 -- the byte at i
 pub byte_num : (bytes : List ℕ) (i : ℕ) → get_or bytes i 0 < 256 → get_or bytes i 0 ≡ bits_from bytes (8 * i) 8
-byte_num bytes i h = let s = num_step bytes i in sym (part_num bytes i 8 ∙ omega arith)
-
--- eight bytes from i on
-pub word_num : (bytes : List ℕ) (i : ℕ) → get_or bytes i 0 < 256 → get_or bytes (i + 1) 0 < 256 → get_or bytes (i + 2) 0 < 256 → get_or bytes (i + 3) 0 < 256 → get_or bytes (i + 4) 0 < 256 → get_or bytes (i + 5) 0 < 256 → get_or bytes (i + 6) 0 < 256 → get_or bytes (i + 7) 0 < 256 → get_or bytes i 0 + get_or bytes (i + 1) 0 * 256 + get_or bytes (i + 2) 0 * 65536 + get_or bytes (i + 3) 0 * 16777216 + get_or bytes (i + 4) 0 * 4294967296 + get_or bytes (i + 5) 0 * 1099511627776 + get_or bytes (i + 6) 0 * 281474976710656 + get_or bytes (i + 7) 0 * 72057594037927936 ≡ bits_from bytes (8 * i) 64
-word_num bytes i h0 h1 h2 h3 h4 h5 h6 h7 =
-    let x0 = byte i (i + 1) (omega arith) h0 in
-    let x1 = byte (i + 1) (i + 2) (omega arith) h1 in
-    let x2 = byte (i + 2) (i + 3) (omega arith) h2 in
-    let x3 = byte (i + 3) (i + 4) (omega arith) h3 in
-    let x4 = byte (i + 4) (i + 5) (omega arith) h4 in
-    let x5 = byte (i + 5) (i + 6) (omega arith) h5 in
-    let x6 = byte (i + 6) (i + 7) (omega arith) h6 in
-    let x7 = byte (i + 7) (i + 8) (omega arith) h7 in
-    sym (part_num bytes i 64 ∙ omega arith)
-  where
-    byte : (a b : ℕ) → a + 1 ≡ b → get_or bytes a 0 < 256 → num_of (drop a bytes) ≡ num_of (drop b bytes) * 256 + get_or bytes a 0
-    byte a b e h =
-        let s = num_step bytes a in
-        let r : get_or bytes a 0 % 256 ≡ get_or bytes a 0 = omega arith in
-        s ∙ ap₂ (λ k x. num_of (drop k bytes) * 256 + x) e r
+byte_num bytes i h = let s = num_step bytes i in let b = bits_num bytes (8 * i) 8 ∙ ap (λ x. x % 2 ^ 8) (num_drop bytes i) in sym (b ∙ omega arith)
 
 -- the high part of a number is put behind its low part
 pub join_num : (lo hi s t : ℕ) → lo < 2 ^ (s + t) → bit_or (lo / 2 ^ s) ((hi * 2 ^ t) % 2 ^ (s + t)) ≡ (hi * 2 ^ (s + t) + lo) / 2 ^ s % 2 ^ (s + t)
@@ -79,31 +93,6 @@ pub bits_lt : (bytes : List ℕ) (s n : ℕ) → bits_from bytes s n < 2 ^ n
 unfolding bits_from
 bits_lt bytes s n = from_lt (bit_past bytes s) n
 
-bits_none : (bytes : List ℕ) (s : ℕ) → bits_from bytes s 0 ≡ 0
-unfolding bits_from
-bits_none bytes s = refl
-
--- the places from k on have been gathered, of n
-module _ (bytes : List ℕ) (at n k all : ℕ) (so_far : all ≡ num_of (drop (at + k) bytes) % 2 ^ (8 * (n - k))) where
-  pub gather_room : n ≤ 8 → 0 < k → all * 256 + 255 < 2 ^ 64
-  gather_room h l =
-      let less : all < 2 ^ (8 * (n - k)) = rw so_far (mod_below (num_of (drop (at + k) bytes)) (2 ^ (8 * (n - k))) (pow_pos (8 * (n - k)))) in
-      let most : all < 2 ^ 56 = lt_of_lt_of_le less (pow_mono {j = 56} (omega arith)) in
-      omega arith
-
-  pub gather_more : 0 < k → k ≤ n → get_or bytes (at + (k - 1)) 0 < 256 → all * 256 + get_or bytes (at + (k - 1)) 0 ≡ num_of (drop (at + (k - 1)) bytes) % 2 ^ (8 * (n - (k - 1)))
-  gather_more l m h =
-      let next : at + (k - 1) + 1 ≡ at + k = omega arith in
-      let size : n - k + 1 ≡ n - (k - 1) = omega arith in
-      let step = part_step bytes (at + (k - 1)) (n - k) h in
-      ap (λ x. x * 256 + get_or bytes (at + (k - 1)) 0) (so_far ∙ ap (λ i. num_of (drop i bytes) % 2 ^ (8 * (n - k))) (sym next)) ∙ sym step ∙ ap (λ m. num_of (drop (at + (k - 1)) bytes) % 2 ^ (8 * m)) size
-
-  pub gather_all : k ≤ 0 → all ≡ bits_from bytes (8 * at) (8 * n)
-  gather_all l =
-      let first : at + k ≡ at = omega arith in
-      let size : n - k ≡ n = omega arith in
-      so_far ∙ ap₂ (λ i m. num_of (drop i bytes) % 2 ^ (8 * m)) first size ∙ sym (part_num bytes at (8 * n))
-
 -- n bits lie within the first m
 pub cut_num : (x s n m : ℕ) → s + n ≤ m → x % 2 ^ m / 2 ^ s % 2 ^ n ≡ x / 2 ^ s % 2 ^ n
 cut_num x s n m h =
@@ -111,61 +100,33 @@ cut_num x s n m h =
     let b : m - s - n + n ≡ m - s = omega arith in
     ap (λ t. x % 2 ^ t / 2 ^ s % 2 ^ n) (sym a) ∙ ap (λ t. t % 2 ^ n) (field x (m - s) s) ∙ ap (λ t. x / 2 ^ s % 2 ^ t % 2 ^ n) (sym b) ∙ mod-mod-pow (x / 2 ^ s) (m - s - n) n
 
--- bits of the bytes that hold them: size bytes from byte at on, eight in lo and the ninth in hi
-module _ (bytes : List ℕ) (at size lo hi : ℕ) (is-lo : lo ≡ bits_from bytes (8 * at) (8 * min size 8)) (is-hi : hi ≡ bits_from bytes (8 * at + 64) (8 * (size - 8))) where
-  pub ninth_lt : size ≤ 9 → hi < 256
-  ninth_lt h = lt_of_lt_of_le {m = 2 ^ (8 * (size - 8))} (rw is-hi (bits_lt bytes (8 * at + 64) (8 * (size - 8)))) (pow_mono {j = 8} (omega arith))
+-- bits of the first eight bytes, and of the first nine
+pub eight_num : (bytes : List ℕ) (lo s n : ℕ) → lo ≡ bits_from bytes 0 64 → s + n ≤ 64 → lo / 2 ^ s % 2 ^ n ≡ bits_from bytes s n
+eight_num bytes lo s n is h =
+    ap (λ x. x / 2 ^ s % 2 ^ n) (is ∙ bits_low bytes 64) ∙ cut_num (num_of bytes) s n 64 h ∙ sym (bits_num bytes s n)
 
-  all_bytes : hi * 2 ^ 64 + lo ≡ num_of (drop at bytes) % 2 ^ (8 * size)
-  all_bytes = ⊎_elim nine fewer (cases_lt 8 size)
-    where
-      x : ℕ
-      x = num_of (drop at bytes)
-
-      high_part : (m : ℕ) → bits_from bytes (8 * at + 64) m ≡ x / 2 ^ 64 % 2 ^ m
-      high_part m = bits_num bytes (8 * at + 64) m ∙ ap (λ y. y % 2 ^ m) (sym (shr-shr (num_of bytes) (8 * at) 64) ∙ ap (λ y. y / 2 ^ 64) (num_drop bytes at))
-
-      nine : 8 < size → hi * 2 ^ 64 + lo ≡ x % 2 ^ (8 * size)
-      nine h =
-          let a : min size 8 ≡ 8 = omega arith in
-          let b : 8 * (size - 8) + 64 ≡ 8 * size = omega arith in
-          let l : lo ≡ x % 2 ^ 64 = is-lo ∙ ap (λ m. bits_from bytes (8 * at) (8 * m)) a ∙ part_num bytes at 64 in
-          let u : hi ≡ x / 2 ^ 64 % 2 ^ (8 * (size - 8)) = is-hi ∙ high_part (8 * (size - 8)) in
-          ap₂ (λ y z. y * 2 ^ 64 + z) u l ∙ sym (mod-pow-add x (8 * (size - 8)) 64) ∙ ap (λ m. x % 2 ^ m) b
-
-      fewer : size ≤ 8 → hi * 2 ^ 64 + lo ≡ x % 2 ^ (8 * size)
-      fewer h =
-          let a : min size 8 ≡ size = omega arith in
-          let b : 8 * (size - 8) ≡ 0 = omega arith in
-          let l : lo ≡ x % 2 ^ (8 * size) = is-lo ∙ ap (λ m. bits_from bytes (8 * at) (8 * m)) a ∙ part_num bytes at (8 * size) in
-          let u : hi ≡ x / 2 ^ 64 % 1 = is-hi ∙ ap (bits_from bytes (8 * at + 64)) b ∙ high_part 0 in
-          omega arith
-
-  pub field_num : (s n : ℕ) → n ≤ 64 → (s + n ≤ 8 * size) ⊎ (length bytes - at ≤ size) → (hi * 2 ^ 64 + lo) / 2 ^ s % 2 ^ 64 % 2 ^ n ≡ bits_from bytes (8 * at + s) n
-  field_num s n h enough =
-      let room : 64 ≡ 64 - n + n = omega arith in
-      let y = (hi * 2 ^ 64 + lo) / 2 ^ s in
-      let narrow : y % 2 ^ 64 % 2 ^ n ≡ y % 2 ^ n = ap (λ t. y % 2 ^ t % 2 ^ n) room ∙ mod-mod-pow y (64 - n) n in
-      let here : num_of bytes / 2 ^ (8 * at + s) ≡ num_of (drop at bytes) / 2 ^ s = sym (shr-shr (num_of bytes) (8 * at) s) ∙ ap (λ x. x / 2 ^ s) (num_drop bytes at) in
-      narrow ∙ ap (λ x. x / 2 ^ s % 2 ^ n) all_bytes ∙ ⊎_elim (cut_num (num_of (drop at bytes)) s n (8 * size)) past enough ∙ sym (bits_num bytes (8 * at + s) n ∙ ap (λ x. x % 2 ^ n) here)
-    where
-      past : length bytes - at ≤ size → num_of (drop at bytes) % 2 ^ (8 * size) / 2 ^ s % 2 ^ n ≡ num_of (drop at bytes) / 2 ^ s % 2 ^ n
-      past l =
-          let long = length-drop at bytes in
-          let less : num_of (drop at bytes) < 2 ^ (8 * size) = lt_of_lt_of_le (num_lt (drop at bytes)) (pow_mono (omega arith)) in
-          ap (λ x. x / 2 ^ s % 2 ^ n) (mod-eq_of_lt less)
-
--- bits of the first eight bytes from byte at on
-pub eight_num : (bytes : List ℕ) (at size lo s n : ℕ) → lo ≡ bits_from bytes (8 * at) (8 * min size 8) → size ≡ min (length bytes - at) 8 → s + n ≤ 64 → lo / 2 ^ s % 2 ^ n ≡ bits_from bytes (8 * at + s) n
-eight_num bytes at size lo s n is-lo few h =
-    let none : 8 * (size - 8) ≡ 0 = omega arith in
-    let is-hi : 0 ≡ bits_from bytes (8 * at + 64) (8 * (size - 8)) = sym (ap (bits_from bytes (8 * at + 64)) none ∙ bits_none bytes (8 * at + 64)) in
-    let lone : 0 * 2 ^ 64 + lo ≡ lo = omega arith in
+pub nine_num : (bytes : List ℕ) (lo hi s n : ℕ) → lo ≡ bits_from bytes 0 64 → hi ≡ bits_from bytes 64 8 → s < 8 → n ≤ 64 → (hi * 2 ^ 64 + lo) / 2 ^ s % 2 ^ 64 % 2 ^ n ≡ bits_from bytes s n
+nine_num bytes lo hi s n is-lo is-hi h l =
+    let x = num_of bytes in
+    let first : lo ≡ x % 2 ^ 64 = is-lo ∙ bits_low bytes 64 in
+    let ninth : hi ≡ x / 2 ^ 64 % 2 ^ 8 = is-hi ∙ bits_num bytes 64 8 in
+    let both : hi * 2 ^ 64 + lo ≡ x % 2 ^ 72 = ap₂ (λ y z. y * 2 ^ 64 + z) ninth first ∙ sym (mod-pow-add x 8 64) in
     let room : 64 ≡ 64 - n + n = omega arith in
-    let enough : (s + n ≤ 8 * size) ⊎ (length bytes - at ≤ size) = elim (cases_lt (length bytes - at) 8) [ inl l ↦ inr (omega arith) | inr l ↦ inl (omega arith) ] in
-    sym (ap (λ t. lo / 2 ^ s % 2 ^ t % 2 ^ n) room ∙ mod-mod-pow (lo / 2 ^ s) (64 - n) n)
-    ∙ ap (λ x. x / 2 ^ s % 2 ^ 64 % 2 ^ n) (sym lone)
-    ∙ field_num bytes at size lo 0 is-lo is-hi s n (omega arith) enough
+    let y = (hi * 2 ^ 64 + lo) / 2 ^ s in
+    let narrow : y % 2 ^ 64 % 2 ^ n ≡ y % 2 ^ n = ap (λ t. y % 2 ^ t % 2 ^ n) room ∙ mod-mod-pow y (64 - n) n in
+    narrow ∙ ap (λ z. z / 2 ^ s % 2 ^ n) both ∙ cut_num x s n 72 (omega arith) ∙ sym (bits_num bytes s n)
+
+-- bits from a byte on, and of as many bytes as have them
+pub bits_rest : (bytes : List ℕ) (at s n : ℕ) → bits_from (drop at bytes) s n ≡ bits_from bytes (8 * at + s) n
+bits_rest bytes at s n = bits_num (drop at bytes) s n ∙ ap (λ x. x / 2 ^ s % 2 ^ n) (sym (num_drop bytes at)) ∙ ap (λ x. x % 2 ^ n) (shr-shr (num_of bytes) (8 * at) s) ∙ sym (bits_num bytes (8 * at + s) n)
+
+pub bits_part : (bytes : List ℕ) (size s n : ℕ) → (s + n ≤ 8 * size) ⊎ (length bytes ≤ size) → bits_from (take size bytes) s n ≡ bits_from bytes s n
+unfolding bits_from
+bits_part bytes size s n enough = from_same (bit_past (take size bytes) s) (bit_past bytes s) n (λ j l. ap (λ b. bit_of b ((s + j) % 8)) (same j l enough))
+  where
+    same : (j : ℕ) → j < n → (s + n ≤ 8 * size) ⊎ (length bytes ≤ size) → get_or (take size bytes) ((s + j) / 8) 0 ≡ get_or bytes ((s + j) / 8) 0
+    same j l (inl h) = get_or-take size bytes ((s + j) / 8) 0 (omega arith)
+    same j l (inr h) = ap (λ xs. get_or xs ((s + j) / 8) 0) (take_all size bytes h)
 
 -- the bits of word k of a window, as bits of its bytes
 pub word_bits : (w : Window) (k : ℕ) → bits_from w.bytes.now (w.start + 64 * k) (min (w.len - 64 * k) 64) ≡ word_of w k

@@ -3,6 +3,7 @@ pub mod Rising
 pub mod Filtered
 pub mod Listed
 pub mod Faults
+pub mod AsRuns
 pub mod Bits
 pub mod Fields
 pub mod Ranged

@@ -12,7 +12,8 @@ use Rattle.selection.specs.declared.selections.Run.{Run}
 use Rattle.selection.specs.declared.refusals.Refusal.TheVariants.{Order, Past}
 use Rattle.selection.specs.declared.selections.Selection.TheVariants.{Bitmap, Indices, Runs}
 use Rattle.selection.specs.Refusals.{when, first, answered}
-use Rattle.selection.specs.Selected.{Rising, RunsRise, range, window_bit, window_fault, among, in_run, covered, index_fault, indices_fault, run_fault, runs_fault, no_run, long, positions, count_of, selection_fault}
+use Rattle.selection.specs.Selected.{Rising, RunsRise, range, window_bit, window_fault, among, in_run, covered, index_fault, indices_fault, run_fault, runs_fault, no_run, positions, count_of, selection_fault}
+use Rattle.selection.specs.Items.{listed_positions}
 use Rattle.selection.proofs.Objections.{none_each, none_of, none_when, none_first, when_none, first_none, ok_answered}
 use Rattle.selection.proofs.Rising.{rising_from, rising_within, rising_all, rising_counting, rising_get_d, rising_step}
 use Rattle.selection.proofs.Filtered.{kept_same}
@@ -21,7 +22,7 @@ among_below : (lo hi k : ℕ) (xs : List ℕ) → Rising lo hi xs → k < lo →
 among_below lo hi k [] h l = refl
 among_below lo hi k (x ∷ xs) h l = let e : eqb x k ≡ false = ne_eqb x k (λ e. omega arith) in rw e (among_below (suc x) hi k xs h.2 (omega arith))
 
-nothing_kept : (n a : ℕ) → filter (λ k. among k []) (range_with_len a n) ≡ []
+pub nothing_kept : (n a : ℕ) → filter (λ k. among k []) (range_with_len a n) ≡ []
 nothing_kept zero a = refl
 nothing_kept (suc n) a = nothing_kept n (a + 1)
 
@@ -166,10 +167,6 @@ pub count_window : (w : Window) (n : ℕ) → window_fault w ≡ None → n ≡ 
 unfolding selection_fault positions
 count_window w n e f = ap Ok f ∙ ok_answered _ _ e
 
-pub count_of_indices : (xs : Bor (List ℕ)) (n : ℕ) → selection_fault (Indices xs n) ≡ None → length xs.now ≡ count_of (Indices xs n)
-unfolding selection_fault
-count_of_indices xs n e = sym (ap length (indices_pick xs n (none_each (long n ∷ indices_fault n xs.now ∷ []) e).1.0))
-
 length_ranges : (rs : List Run) → sum_by (λ r. r.«end» - r.start) rs ≡ length (flat_map range rs)
 length_ranges [] = refl
 length_ranges (r ∷ rs) =
@@ -178,9 +175,8 @@ length_ranges (r ∷ rs) =
     let both = length-append (range r) (flat_map range rs) in
     sum_by-cons (λ r. r.«end» - r.start) r rs ∙ omega arith
 
-pub count_runs : (rs : Bor (List Run)) (n : ℕ) → selection_fault (Runs rs n) ≡ None → sum_by (λ r. r.«end» - r.start) rs.now ≡ count_of (Runs rs n)
-unfolding selection_fault
-count_runs rs n e = length_ranges rs.now ∙ sym (ap length (runs_pick_formed rs n (none_each (long n ∷ runs_fault n rs.now ∷ []) e).1.0))
+pub count_runs : (n : ℕ) (rs : List Run) → runs_fault n rs ≡ None → sum_by (λ r. r.«end» - r.start) rs ≡ length (listed_positions n rs)
+count_runs n rs e = length_ranges rs ∙ sym (ap length (runs_pick n rs (runs_rise n rs e)))
 
 pub runs_wider : (lo hi higher : ℕ) (rs : List Run) → hi ≤ higher → RunsRise lo hi rs → RunsRise lo higher rs
 runs_wider lo hi higher [] l up = tt

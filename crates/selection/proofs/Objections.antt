@@ -1,5 +1,5 @@
 -- The first objection among several.
-use Rattle.std.proofs.Common.{◌≡◌, ℕ, suc, ◌+◌, ◌-◌, ◌<◌, ◌≤◌, Bool, true, false, List, [], ◌∷◌, Some, None, Ok, Err, Option, sym, refl, ap, ◌∙◌, arith}
+use Rattle.std.proofs.Common.{◌≡◌, ℕ, zero, suc, ◌+◌, ◌-◌, ◌<◌, ◌≤◌, Bool, true, false, List, [], ◌∷◌, Some, None, Ok, Err, Option, sym, refl, ap, ◌∙◌, ap₂, arith}
 use Rattle.std.specs.List.{range_with_len, AllByRecursion}
 use Rattle.selection.specs.declared.refusals.Refusal.{Refusal}
 use Rattle.selection.specs.Refusals.{when, or_else, first_of, first, answered}
@@ -27,6 +27,14 @@ first_none f (x ∷ xs) e = let h = none_both (f x) (first f xs) e in (h.0, firs
 pub none_first : {X Y : Type 0} (f : X → Option Y) (xs : List X) → AllByRecursion (λ x. f x ≡ None) xs → first f xs ≡ None
 none_first f [] h = refl
 none_first f (x ∷ xs) h = none_from (f x) (first f xs) h.0 (none_first f xs h.1)
+
+-- objections that agree along a count
+pub first_same : {Y : Type 0} (f g : ℕ → Option Y) (n : ℕ) → ((k : ℕ) → k < n → f k ≡ g k) → first f (range_with_len 0 n) ≡ first g (range_with_len 0 n)
+first_same f g n h = from n 0 (λ k _ l. h k (omega arith))
+  where
+    from : (m a : ℕ) → ((k : ℕ) → a ≤ k → k < a + m → f k ≡ g k) → first f (range_with_len a m) ≡ first g (range_with_len a m)
+    from zero a h = refl
+    from (suc m) a h = ap₂ or_else (h a (omega arith) (omega arith)) (from m (a + 1) (λ k l u. h k (omega arith) (omega arith)))
 
 pub none_each : {X : Type 0} (os : List (Option X)) → first_of os ≡ None → AllByRecursion (λ o. o ≡ None) os
 none_each [] e = tt

@@ -1,26 +1,28 @@
 -- Positions that make up one run, by their ends.
-use Rattle.std.proofs.Common.{◌≡◌, ℕ, zero, suc, ◌+◌, ◌-◌, ◌*◌, ◌/◌, ◌%◌, ◌^◌, ◌<◌, ◌≤◌, min, Bool, true, false, cond, ◌&&◌, ◌||◌, eqb, ltb, ◌⊎◌, List, [], ◌∷◌, length, get_or, Some, None, Ok, sum_by, filter, Option, sym, refl, ap, ◌∙◌, subst, ap₂, inl, inr, ⊎_elim, lt_of_lt_of_le, add-zero, pow-suc, arith, pow_mono, Bor}
+use Rattle.std.proofs.Common.{◌≡◌, ℕ, zero, suc, ◌+◌, ◌-◌, ◌*◌, ◌/◌, ◌%◌, ◌^◌, ◌<◌, ◌≤◌, min, Bool, true, false, cond, ◌&&◌, ◌||◌, eqb, ltb, ◌⊎◌, List, [], ◌∷◌, map, length, get_or, Some, None, Ok, filter, Option, sym, refl, ap, ◌∙◌, subst, ap₂, inl, inr, ⊎_elim, lt_of_lt_of_le, add-zero, pow-suc, arith, pow_mono}
 use lib.Arith.{lt-one}
 use lib.Count.{ones, count_leading_zeros, count_trailing_zeros, leading_top}
-use Rattle.std.specs.List.{range_with_len, AllByRecursion}
+use Rattle.std.specs.List.{range_with_len, slice_get, AllByRecursion}
 use Rattle.std.proofs.lemmas.Nat.{div_below, le-div}
+use Rattle.std.proofs.lemmas.List.{get_or-map, length-map}
 use Rattle.std.proofs.lemmas.List.FromFn.{length-range_with_len}
+use Rattle.std.proofs.lemmas.Option.{get_or_from_slice_get, slice_get-get_or, slice_get_within}
 use Rattle.std.proofs.ByRecursion.{All-weaker}
 use Rattle.std.proofs.lemmas.Bool.{cases_eq, cases_lt, eq-eqb, ne_eqb, lt-ltb, le-ltb}
 use Rattle.std.proofs.lemmas.Bool.Decides.{nat_tests}
 use Rattle.selection.specs.declared.selections.Run.{Run}
 use Rattle.selection.specs.declared.ranges.Ends.{Ends}
 use Rattle.selection.specs.declared.windows.Window.{Window}
-use Rattle.selection.specs.declared.selections.Selection.{Selection}
-use Rattle.selection.specs.declared.selections.Selection.TheVariants.{Indices, Runs}
 use Rattle.selection.specs.Refusals.{answered, when}
-use Rattle.selection.specs.Selected.{Rising, RunsRise, among, bit_of, count_of, covered, extent, number_of_bits, in_run, indices_fault, long, no_run, picks, positions, range, runs_fault, selection_fault, window_bit, word_of}
+use Rattle.selection.specs.Selected.{Rising, RunsRise, among, bit_of, covered, number_of_bits, in_run, long, no_run, range, runs_fault, window_bit, word_of}
+use Rattle.selection.specs.declared.refusals.Refusal.{Refusal}
+use Rattle.selection.specs.Items.{listed_fault, listed_positions}
 use Rattle.selection.specs.Ranges.{Ended, EndsIn, OneRun, in_turn, run_of}
 use Rattle.selection.proofs.Bits.{bit_above, bit_from, bit_none, bit_shift, from_lt, ones_from, tally, tally_more, tally_none, tally_split}
 use Rattle.selection.proofs.Fields.{bits_window, word_bits}
-use Rattle.selection.proofs.Listed.{count_runs, index_rises, runs_rise}
+use Rattle.selection.proofs.Listed.{nothing_kept, runs_rise}
 use Rattle.selection.proofs.Objections.{answered_ok, answered_value, none_each, ok_answered}
-use Rattle.selection.proofs.Rising.{rising_above, rising_below, rising_counting, rising_from, rising_full, rising_get_d, rising_kept, rising_length}
+use Rattle.selection.proofs.Rising.{rising_above, rising_below, rising_counting, rising_full, rising_kept, rising_length}
 
 -- numbers in turn are a count
 turn_counting : (n a : ℕ) → in_turn a (range_with_len a n) ≡ true
@@ -310,52 +312,6 @@ module _ (q : ℕ → Bool) (m n c a b w : ℕ) (h : Ended q m c a b) (few : n �
           let lh = low_high in
           rw t (record { counted = count; order = omega arith; ends = λ _. ends_with a (omega arith) g.first g.below })
 
--- the ends of an ascending list
-among_at : (xs : List ℕ) (k : ℕ) → k < length xs → among (get_or xs k 0) xs ≡ true
-among_at [] k l = absurd (omega arith)
-among_at (x ∷ xs) zero l = let e : eqb x x ≡ true = eq-eqb x x refl in rw e refl
-among_at (x ∷ xs) (suc k) l = rw (among_at xs k (omega arith)) (or_true (eqb x (get_or xs k 0)))
-  where
-    or_true : (b : Bool) → (b || true) ≡ true
-    or_true true = refl
-    or_true false = refl
-
-among_outside : (lo hi k : ℕ) (xs : List ℕ) → Rising lo hi xs → (k < lo) ⊎ (hi ≤ k) → among k xs ≡ false
-among_outside lo hi k [] h o = refl
-among_outside lo hi k (x ∷ xs) h o =
-    let a = h.0 in
-    let b = h.1 in
-    let e : eqb x k ≡ false = ne_eqb x k (λ e. ⊎_elim (λ l. omega arith) (λ l. omega arith) o) in
-    rw e (among_outside (suc x) hi k xs h.2 (⊎_elim (λ l. inl (omega arith)) (λ l. inr l) o))
-
-rising_last : (lo hi : ℕ) (xs : List ℕ) → Rising lo hi xs → 0 < length xs → Rising (get_or xs 0 0) (get_or xs (length xs - 1) 0 + 1) xs
-rising_last lo hi [] h l = absurd (omega arith)
-rising_last lo hi (x ∷ []) h l = (omega arith, omega arith, tt)
-rising_last lo hi (x ∷ (y ∷ ys)) h l =
-    let r = rising_last (suc x) hi (y ∷ ys) h.2 (omega arith) in
-    let back : suc (suc (length ys)) - 1 ≡ suc (length ys) = omega arith in
-    let back' : suc (length ys) - 1 ≡ length ys = omega arith in
-    let r' : Rising y (get_or (y ∷ ys) (length ys) 0 + 1) (y ∷ ys) = rw back' at r in
-    let top = r'.1 in
-    let up = h.2.0 in
-    rw back (omega arith, omega arith, rising_from y (suc x) (get_or (y ∷ ys) (length ys) 0 + 1) (y ∷ ys) up r')
-
-pub index_ends : (n : ℕ) (xs : List ℕ) → Rising 0 n xs → 0 < length xs → EndsIn (λ k. among k xs) n (get_or xs 0 0) (get_or xs (length xs - 1) 0 + 1)
-index_ends n xs h l =
-    let up = rising_last 0 n xs h l in
-    let z = get_or xs (length xs - 1) 0 in
-    let first = rising_get_d (get_or xs 0 0) (z + 1) xs 0 up l in
-    let last = rising_get_d 0 n xs (length xs - 1) h (omega arith) in
-    let back : z + 1 - 1 ≡ z = omega arith in
-    record {
-      order = first.1;
-      inside = omega arith;
-      first = among_at xs 0 l;
-      last = ap (λ k. among k xs) back ∙ among_at xs (length xs - 1) (omega arith);
-      below = λ j k. among_outside (get_or xs 0 0) (z + 1) j xs up (inl k);
-      above = λ j k _. among_outside (get_or xs 0 0) (z + 1) j xs up (inr k);
-    }
-
 -- the ends of runs
 covered_at : (rs : List Run) (k p : ℕ) → k < length rs → in_run p (get_or rs k no_run) ≡ true → covered p rs ≡ true
 covered_at [] k p l e = absurd (omega arith)
@@ -441,36 +397,31 @@ ended_turn q m n w e r h few is f = ⊎_elim none some (cases_eq w 0)
 pub window_word : (w : Window) (k : ℕ) → word_of w k ≡ number_of_bits (λ j. window_bit w (64 * k + j)) (min (w.len - 64 * k) 64)
 window_word w k = sym (word_bits w k) ∙ bits_window w (64 * k) (w.start + 64 * k) (min (w.len - 64 * k) 64) refl
 
--- what a selection with such ends answers
-pub ranged : (s : Selection) (c a b : ℕ) (o : Option Run) → selection_fault s ≡ None → Ended (picks s) (extent s) c a b → o ≡ when (ltb 0 c && eqb (b - a) c) (record { start = a; «end» = b }) → Ok o ≡ answered (selection_fault s) (run_of (positions s))
-unfolding positions
-ranged s c a b o e h f = ap Ok (f ∙ run_by_ends (picks s) (extent s) c a b h) ∙ ok_answered (selection_fault s) (run_of (filter (picks s) (range_with_len 0 (extent s)))) e
+-- what positions with such ends answer
+pub ranged : (e : Option Refusal) (q : ℕ → Bool) (n c a b : ℕ) (o : Option Run) → e ≡ None → Ended q n c a b → o ≡ when (ltb 0 c && eqb (b - a) c) (record { start = a; «end» = b }) → Ok o ≡ answered e (run_of (filter q (range_with_len 0 n)))
+ranged e q n c a b o none h f = ap Ok (f ∙ run_by_ends q n c a b h) ∙ ok_answered e (run_of (filter q (range_with_len 0 n))) none
 
--- and one that picks nothing
-pub ranged_none : (s : Selection) → selection_fault s ≡ None → count_of s ≡ 0 → Ok None ≡ answered (selection_fault s) (run_of (positions s))
-ranged_none s e z = ap Ok (sym (run_of_none (positions s) z)) ∙ ok_answered (selection_fault s) (run_of (positions s)) e
+-- and no items, where there is no last
+pub ranged_none : {X : Type 0} (f : X → Run) (e : Option Refusal) (n : ℕ) (xs : List X) → e ≡ None → None ≡ slice_get xs (length xs - 1) → Ok None ≡ answered e (run_of (listed_positions n (map f xs)))
+ranged_none f e n [] none is = ap Ok (sym (ap run_of (nothing_kept n 0) ∙ run_of_none [] refl)) ∙ ok_answered e _ none
+ranged_none {X} f e n (x ∷ xs) none is = let l : length xs < suc (length xs) = omega arith in let s = slice_get-get_or (x ∷ xs) (suc (length xs) - 1) x (omega arith) in absurd (cc)
 
--- the ends of a well formed list that is not empty
-pub indices_ended : (xs : Bor (List ℕ)) (n c : ℕ) → answered (selection_fault (Indices xs n)) (count_of (Indices xs n)) ≡ Ok c → (length xs.now ≡ 0 → ⊥) → Ended (picks (Indices xs n)) n c (get_or xs.now 0 0) (get_or xs.now (length xs.now - 1) 0 + 1) × (get_or xs.now (length xs.now - 1) 0 + 1 ≤ n)
-unfolding selection_fault positions
-indices_ended xs n c e l =
-    let fine = (none_each (long n ∷ indices_fault n xs.now ∷ []) (answered_ok _ _ _ e)).1.0 in
-    let ends = index_ends n xs.now (index_rises n xs.now fine) (omega arith) in
+-- the ends of well formed runs, of which there are some
+pub runs_ended : (n : ℕ) (rs : List Run) (c : ℕ) → runs_fault n rs ≡ None → c ≡ length (listed_positions n rs) → 0 < length rs → Ended (λ k. covered k rs) n c (get_or rs 0 no_run).start (get_or rs (length rs - 1) no_run).«end» × ((get_or rs (length rs - 1) no_run).«end» ≤ n)
+runs_ended n rs c e is l =
+    let ends = run_ends n rs (runs_rise n rs e) l in
     let o = ends.order in
-    (record { counted = sym (answered_value _ _ _ e); order = omega arith; ends = λ _. ends }, ends.inside)
+    (record { counted = is; order = omega arith; ends = λ _. ends }, ends.inside)
 
-pub runs_ended : (rs : Bor (List Run)) (n c : ℕ) → answered (selection_fault (Runs rs n)) (count_of (Runs rs n)) ≡ Ok c → (length rs.now ≡ 0 → ⊥) → Ended (picks (Runs rs n)) n c (get_or rs.now 0 no_run).start (get_or rs.now (length rs.now - 1) no_run).«end»
-unfolding selection_fault positions
-runs_ended rs n c e l =
-    let fine = (none_each (long n ∷ runs_fault n rs.now ∷ []) (answered_ok _ _ _ e)).1.0 in
-    let ends = run_ends n rs.now (runs_rise n rs.now fine) (omega arith) in
-    let o = ends.order in
-    record { counted = sym (answered_value _ _ _ e); order = omega arith; ends = λ _. ends }
-
--- no run picks nothing
-pub no_runs : (rs : Bor (List Run)) (n : ℕ) → selection_fault (Runs rs n) ≡ None → length rs.now ≡ 0 → count_of (Runs rs n) ≡ 0
-no_runs rs n e z = sym (count_runs rs n e) ∙ go rs.now z
-  where
-    go : (xs : List Run) → length xs ≡ 0 → sum_by (λ r. r.«end» - r.start) xs ≡ 0
-    go [] l = refl
-    go (x ∷ xs) l = absurd (omega arith)
+-- and of well formed items, where this is the last
+module _ {X : Type 0} (f : X → Run) (n c : ℕ) (xs : List X) (z : X) (is : Some z ≡ slice_get xs (length xs - 1)) (counted : answered (listed_fault n (map f xs)) (length (listed_positions n (map f xs))) ≡ Ok c) where
+  pub items_ended : (a : X) → a ≡ get_or xs 0 a → Ended (λ k. covered k (map f xs)) n c (f a).start (f z).«end» × ((f z).«end» ≤ n)
+  items_ended a at =
+      let l : length xs - 1 < length xs = slice_get_within xs (length xs - 1) z (sym is) in
+      let size = length-map xs f in
+      let first : get_or (map f xs) 0 no_run ≡ f a = get_or-map f xs 0 a no_run (omega arith) ∙ ap f (sym at) in
+      let last : get_or (map f xs) (length (map f xs) - 1) no_run ≡ f z =
+      ap (λ m. get_or (map f xs) (m - 1) no_run) size ∙ get_or-map f xs (length xs - 1) z no_run l ∙ ap f (get_or_from_slice_get xs (length xs - 1) z z (sym is)) in
+      let fine = (none_each (long n ∷ runs_fault n (map f xs) ∷ []) (answered_ok _ _ _ counted)).1.0 in
+      let ends = runs_ended n (map f xs) c fine (sym (answered_value _ _ _ counted)) (omega arith) in
+      rw (← first, ← last) ends

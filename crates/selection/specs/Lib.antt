@@ -1,3 +1,4 @@
 pub mod Refusals
 pub mod Selected
+pub mod Items
 pub mod Ranges

@@ -1,5 +1,6 @@
 -- Refusals by number and place, and the first of several.
-use Rattle.std.specs.Prelude.{ℕ, Bool, true, false, List, [], ◌∷◌, Some, None, Ok, Err, Option, Result}
+use Rattle.std.specs.Fmt.{decimal}
+use Rattle.std.specs.Prelude.{ℕ, Bool, true, false, List, [], ◌∷◌, ◌++◌, codes, Some, None, Ok, Err, Option, Result}
 use Rattle.selection.specs.declared.refusals.Refusal.{Refusal}
 use Rattle.selection.specs.declared.refusals.Refusal.TheVariants.{Long, Short, Order, Past, Offset, Scratch, Output, Mismatch, Rank, Shape, Beyond, Index, Spent}
 
@@ -34,6 +35,10 @@ place_of Shape = 0
 place_of (Beyond k) = k
 place_of (Index k) = k
 place_of (Spent k) = k
+
+-- what is printed of it
+abbrev pub text_of : Refusal → List ℕ
+text_of r = codes "number " ++ decimal (number_of r) ++ codes ", place " ++ decimal (place_of r)
 
 -- x where the test holds
 abbrev pub when : {X : Type 0} → Bool → X → Option X

@@ -1,5 +1,5 @@
 //! Numbers from bits of bytes.
-ghost use Rattle.std.specs.Prelude.{◌≡◌, ◌+◌, ◌-◌, ◌*◌, ◌/◌, ◌%◌, ◌^◌, ◌<◌, ◌≤◌, min, length};
+ghost use Rattle.std.specs.Prelude.{◌≡◌, ◌+◌, ◌*◌, ◌/◌, ◌%◌, ◌^◌, ◌<◌, ◌≤◌, bit_or, drop, fold, reverse};
 ghost use Rattle.selection.specs.Selected.{bits_from};
 
 /// What `n` bits make, at most 64, from bit `shift`, below 8, of byte `at` on. A bit past the
@@ -11,11 +11,10 @@ pub fn bits_at(bytes: &[u8], at: u64, shift: u64, n: u64) -> u64
     if n == 0 {
         return 0;
     }
-    let there = (bytes.len() as u64).saturating_sub(at);
-    let size = (shift + n).div_ceil(8).min(there);
-    let low = low_word(bytes, at, size);
-    let high = ninth_byte(bytes, at, size);
-    low_bits(joined_from(low, high, shift), n)
+    let rest = bytes_from(bytes, at);
+    let size = rest.len().min((shift + n).div_ceil(8) as usize);
+    let part = &rest[..size];
+    low_bits(joined_from(low_word(part), ninth_byte(part), shift), n)
 }
 
 /// What `n` bits make from bit `shift` of byte `at` on, where all of them lie in eight bytes. A bit
@@ -24,33 +23,41 @@ pub fn field_at(bytes: &[u8], at: u64, shift: u64, n: u64) -> u64
     requires { (shift + n ≤ 64) × (shift < 64) }
     ensures { result ≡ bits_from bytes.now (8 * at + shift) n }
 {
-    let there = (bytes.len() as u64).saturating_sub(at);
-    let low = low_word(bytes, at, there.min(8));
-    low_bits(low >> shift, n)
+    low_bits(low_word(bytes_from(bytes, at)) >> shift, n)
 }
 
-/// The first eight of `size` bytes from byte `at` on.
-fn low_word(bytes: &[u8], at: u64, size: u64) -> u64
-    requires { size ≤ length bytes.now - at }
-    ensures { result ≡ bits_from bytes.now (8 * at) (8 * min size 8) }
+/// The bytes from byte `at` on.
+fn bytes_from(bytes: &[u8], at: u64) -> &[u8]
+    ensures { result.now ≡ drop at bytes.now }
 {
-    if size < 8 {
-        gather(bytes, at, size)
-    } else {
-        load(bytes, at)
+    &bytes[bytes.len().min(at as usize)..]
+}
+
+/// The first eight bytes, as if 0 stood past the last.
+fn low_word(bytes: &[u8]) -> u64
+    ensures { result ≡ bits_from bytes.now 0 64 }
+{
+    match bytes.first_chunk() {
+        Some(word) => u64::from_le_bytes(*word),
+        None => gather(bytes),
     }
 }
 
-/// The ninth of `size` bytes from byte `at` on, or 0 where there is none.
-fn ninth_byte(bytes: &[u8], at: u64, size: u64) -> u64
-    requires { (size ≤ length bytes.now - at) × (size ≤ 9) }
-    ensures { result ≡ bits_from bytes.now (8 * at + 64) (8 * (size - 8)) }
+/// A few bytes, the first lowest.
+fn gather(bytes: &[u8]) -> u64
+    ensures { result ≡ fold (λ all byte. bit_or (all * 2 ^ 8 % 2 ^ 64) byte) 0 (reverse bytes.now) }
 {
-    if size < 9 {
-        0
-    } else {
-        u64::from(bytes[(at + 8) as usize])
-    }
+    bytes
+        .iter()
+        .rev()
+        .fold(0, |all, byte| (all << 8) | u64::from(*byte))
+}
+
+/// The ninth byte, or 0 where there is none.
+fn ninth_byte(bytes: &[u8]) -> u64
+    ensures { result ≡ bits_from bytes.now 64 8 }
+{
+    bytes.get(8).map_or(0, |byte| u64::from(*byte))
 }
 
 /// Bits `shift` to `shift + 63` of nine bytes.
@@ -67,34 +74,4 @@ fn low_bits(x: u64, n: u64) -> u64
     ensures { result ≡ x % 2 ^ n }
 {
     if n < 64 { x & ((1 << n) - 1) } else { x }
-}
-
-/// Eight bytes from byte `at` on.
-fn load(bytes: &[u8], at: u64) -> u64
-    requires { at + 8 ≤ length bytes.now }
-    ensures { result ≡ bits_from bytes.now (8 * at) 64 }
-{
-    let i = at as usize;
-    u64::from_le_bytes([
-        bytes[i],
-        bytes[i + 1],
-        bytes[i + 2],
-        bytes[i + 3],
-        bytes[i + 4],
-        bytes[i + 5],
-        bytes[i + 6],
-        bytes[i + 7],
-    ])
-}
-
-/// `n` bytes, at most eight, from byte `at` on.
-fn gather(bytes: &[u8], at: u64, n: u64) -> u64
-    requires { (n ≤ length bytes.now - at) × (n ≤ 8) }
-    ensures { result ≡ bits_from bytes.now (8 * at) (8 * n) }
-{
-    let mut all = 0;
-    for k in (0..n).rev() {
-        all = all * 256 + u64::from(bytes[(at + k) as usize]);
-    }
-    all
 }

@@ -1,11 +1,13 @@
 //! The one run that a selection makes up.
-ghost use Rattle.std.specs.Prelude.{◌≡◌, ◌+◌, ◌-◌, ◌^◌, ◌<◌, ◌≤◌, ◌&&◌, eqb, length, if◌then◌else◌, None, ◌==◌, count_ones, nat_lt};
+ghost use Rattle.std.specs.Prelude.{◌≡◌, ◌+◌, ◌-◌, ◌^◌, ◌<◌, ◌≤◌, ◌&&◌, eqb, map, if◌then◌else◌, None, ◌==◌, count_ones, nat_lt};
 ghost use Rattle.std.specs.Int.Count.{count_leading_zeros, count_trailing_zeros};
-ghost use Rattle.selection.specs.declared.selections.Selection.TheVariants.{Bitmap, Indices, Runs};
+ghost use Rattle.selection.specs.declared.selections.Selection.TheVariants.{Bitmap};
 ghost use Rattle.selection.specs.Refusals.{answered, when};
 ghost use Rattle.selection.specs.Selected.{positions, selection_fault, window_bit, window_fault};
+ghost use Rattle.selection.specs.Items.{listed_fault, listed_positions};
 ghost use Rattle.selection.specs.Ranges.{Ended, OneRun, run_of};
 
+use super::items::{Item, count_items};
 use super::refusals::Refusal;
 use super::selections::{Run, Selection};
 use super::windows::Window;
@@ -79,36 +81,18 @@ fn bitmap_range(window: Window<'_>) -> Result<Option<Run>, Refusal>
     Ok(window_ends(window).run())
 }
 
-/// The run that listed positions make up.
-fn indices_range(indices: &[u64], len: u64) -> Result<Option<Run>, Refusal>
-    ensures { result ≡ answered (selection_fault (Indices indices.entry len)) (run_of (positions (Indices indices.entry len))) }
+/// The run that listed items make up; runs may touch.
+fn items_range<I: Item>(items: &[I], len: u64) -> Result<Option<Run>, Refusal>
+    ensures { let runs = map I.as_run items.now in result ≡ answered (listed_fault len runs) (run_of (listed_positions len runs)) }
 {
-    let count = Selection::Indices { indices, len }.count()?;
-    let n = indices.len();
-    if n == 0 {
+    let count = count_items(items, len)?;
+    let Some(last) = items.last() else {
         return Ok(None);
-    }
-    let ends = Ends {
-        count,
-        start: indices[0],
-        end: indices[n - 1] + 1,
     };
-    Ok(ends.run())
-}
-
-/// The run that listed runs make up; they may touch.
-fn runs_range(runs: &[Run], len: u64) -> Result<Option<Run>, Refusal>
-    ensures { result ≡ answered (selection_fault (Runs runs.entry len)) (run_of (positions (Runs runs.entry len))) }
-{
-    let count = Selection::Runs { runs, len }.count()?;
-    let n = runs.len();
-    if n == 0 {
-        return Ok(None);
-    }
     let ends = Ends {
         count,
-        start: runs[0].start,
-        end: runs[n - 1].end,
+        start: items[0].first(),
+        end: last.past(),
     };
     Ok(ends.run())
 }
@@ -121,7 +105,7 @@ pub fn contiguous_filter_range(selection: Selection<'_>) -> Result<Option<Run>, 
 {
     match selection {
         Selection::Bitmap(window) => bitmap_range(window),
-        Selection::Indices { indices, len } => indices_range(indices, len),
-        Selection::Runs { runs, len } => runs_range(runs, len),
+        Selection::Indices { indices, len } => items_range(indices, len),
+        Selection::Runs { runs, len } => items_range(runs, len),
     }
 }

@@ -1,6 +1,8 @@
 //! Why a call was refused: a number, and a place.
-ghost use Rattle.std.specs.Prelude.{◌≡◌};
-ghost use Rattle.selection.specs.Refusals.{number_of, place_of};
+ghost use Rattle.std.specs.Prelude.{◌≡◌, Some};
+ghost use Rattle.selection.specs.Refusals.{number_of, place_of, text_of};
+
+use std::fmt;
 
 /// Why a call was refused. `place` says where, and is 0 where a case has none.
 #[derive(Clone, Copy, PartialEq, Eq, Debug)]
@@ -68,5 +70,15 @@ impl Refusal {
             | Refusal::Spent { place } => place,
             _ => 0,
         }
+    }
+}
+
+impl fmt::Display for Refusal {
+    ghost output = { λ refusal. Some (text_of refusal) };
+
+    fn fmt<W: fmt::Write>(&self, f: &mut fmt::Formatter<W>) -> fmt::Result {
+        let number = self.number();
+        let place = self.place();
+        write!(f, "number {number}, place {place}")
     }
 }

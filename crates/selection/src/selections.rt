@@ -1,14 +1,14 @@
 //! The three forms of a selection.
-ghost use Rattle.std.specs.Prelude.{◌≡◌, ◌-◌, [], ◌∷◌, length, sum_by};
-ghost use Rattle.selection.specs.Refusals.{answered, first_of};
-ghost use Rattle.selection.specs.Selected.{count_of, extent, indices_fault, long, runs_fault, selection_fault};
+ghost use Rattle.std.specs.Prelude.{◌≡◌};
+ghost use Rattle.selection.specs.Refusals.{answered};
+ghost use Rattle.selection.specs.Selected.{count_of, extent, selection_fault};
 
-use super::items::{check_index, check_len, check_run};
+use super::items::count_items;
 use super::refusals::Refusal;
 use super::windows::Window;
 
 /// The positions from `start` up to and without `end`.
-#[derive(Clone, Copy)]
+#[derive(Clone, Copy, PartialEq, Eq, Debug)]
 pub struct Run {
     pub start: u64,
     pub end: u64,
@@ -41,11 +41,11 @@ impl Selection<'_> {
         match self {
             Selection::Bitmap(window) => window.check(),
             Selection::Indices { indices, len } => {
-                count_indices(indices, len)?;
+                count_items(indices, len)?;
                 Ok(())
             }
             Selection::Runs { runs, len } => {
-                count_runs(runs, len)?;
+                count_items(runs, len)?;
                 Ok(())
             }
         }
@@ -60,34 +60,8 @@ impl Selection<'_> {
                 window.check()?;
                 Ok(window.ones())
             }
-            Selection::Indices { indices, len } => count_indices(indices, len),
-            Selection::Runs { runs, len } => count_runs(runs, len),
+            Selection::Indices { indices, len } => count_items(indices, len),
+            Selection::Runs { runs, len } => count_items(runs, len),
         }
     }
-}
-
-/// The number of indices, or the first that does not ascend or reaches the length.
-fn count_indices(indices: &[u64], len: u64) -> Result<u64, Refusal>
-    ensures { result ≡ answered (first_of (long len ∷ indices_fault len indices.now ∷ [])) (length indices.now) }
-{
-    check_len(len)?;
-    let mut least = 0;
-    for (place, index) in indices.iter().enumerate() {
-        least = check_index(*index, place, least, len)?;
-    }
-    Ok(indices.len() as u64)
-}
-
-/// The number of positions in the runs, or the first run that does not ascend or passes the length.
-fn count_runs(runs: &[Run], len: u64) -> Result<u64, Refusal>
-    ensures { result ≡ answered (first_of (long len ∷ runs_fault len runs.now ∷ [])) (sum_by (λ x. x.«end» - x.start) runs.now) }
-{
-    check_len(len)?;
-    let mut least = 0;
-    let mut total = 0;
-    for (place, run) in runs.iter().enumerate() {
-        least = check_run(*run, place, least, len)?;
-        total += run.end - run.start;
-    }
-    Ok(total)
 }

@@ -1,6 +1,5 @@
 use Rattle.std.proofs.Common.{sym, rules}
-use Rattle.selection.specs.declared.selections.Selection.TheVariants.{Bitmap}
-use Rattle.selection.specs.Selected.{selection_fault}
+use Rattle.selection.specs.Selected.{positions, selection_fault, window_bit, window_fault}
 use Rattle.selection.proofs.Objections.{answered_ok}
 use Rattle.selection.proofs.Ranged.{ranged}
 use Rattle.selection.proofs.ranges.bitmap_range.Goals as goal
@@ -10,7 +9,8 @@ unfolding selection_fault
 returns-in_err-check c = search rules
 
 pub returns : goal.returns
-unfolding selection_fault
+unfolding positions selection_fault
 returns c =
+    let w = c.args.window in
     let e = c.window_ends.result in
-    ranged (Bitmap c.args.window) e.count e.start e.«end» c.run.result (answered_ok _ _ _ (sym c.in_ok-check.ensures)) c.window_ends.ensures c.run.ensures
+    ranged (window_fault w) (window_bit w) w.len e.count e.start e.«end» c.run.result (answered_ok _ _ _ (sym c.in_ok-check.ensures)) c.window_ends.ensures c.run.ensures
