@@ -5,3 +5,4 @@ pub mod Walked
 pub mod Masked
 pub mod Runs
 pub mod Listed
+pub mod Putting

@@ -1,5 +1,5 @@
 -- The positions of a mask, word by word, and what is left of a compaction.
-use Rattle.std.proofs.Common.{◌≡◌, ℕ, zero, suc, ◌+◌, ◌-◌, ◌*◌, ◌/◌, ◌%◌, ◌^◌, ◌<◌, ◌≤◌, Bool, true, false, ◌&&◌, ltb, List, [], ◌∷◌, ◌++◌, length, get_or, set, filter, sym, refl, ap, ◌∙◌, subst, suc-add, arith, Bor}
+use Rattle.std.proofs.Common.{◌≡◌, ℕ, zero, suc, ◌+◌, ◌-◌, ◌*◌, ◌/◌, ◌^◌, ◌<◌, ◌≤◌, Bool, true, false, ◌&&◌, ltb, List, [], ◌∷◌, ◌++◌, length, get_or, set, filter, sym, refl, ap, ◌∙◌, subst, suc-add, arith, Bor}
 use Rattle.std.specs.List.{range_with_len, AllByRecursion}
 use Rattle.std.proofs.lemmas.List.FromFn.{length-range_with_len}
 use Rattle.std.proofs.lemmas.List.Elements.{filter-append}
@@ -127,17 +127,6 @@ left_one {src = src} {out = out} {pos = pos} p qs y h l e =
       count = omega arith;
       written = sym (splice_first out pos y (gather src qs) (omega arith)) ∙ ap (λ v. splice out pos (v ++ gather src qs)) (sym one) ∙ h.written;
     }
-
--- the bits of the word at a place
-pub word_bits : (ws : List ℕ) (k j : ℕ) → j < 64 → bit_of (get_or ws k 0) j ≡ words_bit ws (64 * k + j)
-word_bits ws k j l =
-    let a : k ≡ (64 * k + j) / 64 = omega arith in
-    let b : j ≡ (64 * k + j) % 64 = omega arith in
-    ap (λ x. bit_of (get_or ws x 0) j) a ∙ ap (bit_of (get_or ws ((64 * k + j) / 64) 0)) b
-
-pub words_left : (ws : List ℕ) (n : ℕ) → Covers ws n → left_of (words_bit ws) 0 (length ws) ≡ mask_positions ws n
-unfolding mask_positions
-words_left ws n h = left_all (words_bit ws) n (length ws) h.enough h.clear
 
 pub positions_inside : (ws : List ℕ) (n : ℕ) → Inside n (mask_positions ws n)
 unfolding mask_positions

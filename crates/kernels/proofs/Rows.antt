@@ -1,30 +1,26 @@
 -- The table of bytes, by rows.
-use Rattle.std.proofs.Common.{◌≡◌, ℕ, zero, suc, ◌+◌, ◌-◌, ◌*◌, ◌<◌, ◌≤◌, List, [], ◌∷◌, ◌++◌, length, get_or, drop, set, replicate, sym, refl, ap, ◌∙◌, subst, arith}
+use Rattle.std.proofs.Common.{◌≡◌, ℕ, zero, suc, ◌+◌, ◌-◌, ◌*◌, ◌<◌, ◌≤◌, List, [], ◌∷◌, ◌++◌, length, get_or, take, drop, replicate, sym, refl, ap, ap₂, ◌∙◌, arith}
 use Rattle.std.specs.List.{range_with_len, flat_map}
 use Rattle.std.proofs.lemmas.List.FromFn.{length-range_with_len}
-use Rattle.std.proofs.lemmas.List.{drop_more, get_or_append_left, get_or-append_right, get_or-map, length-append, length-map, length-replicate}
+use Rattle.std.proofs.lemmas.List.{drop_at, drop-drop, drop_more, get_or_append_left, get_or-append_right, get_or-map, get_or-take, length-append, length-map, length-replicate, length-take-le, take_at}
 use Rattle.selection.specs.Selected.{bit_of}
 use Rattle.selection.proofs.Filtered.{kept_fewer_all}
-use Rattle.kernels.specs.Masks.{Inside, bits_of, row_of, set_bits}
-use Rattle.kernels.proofs.Masked.{Left, left_one, left_same}
+use Rattle.kernels.specs.Masks.{bits_of, row_of, set_bits}
 use Rattle.kernels.proofs.SetBits.{bits_from_place}
 
 -- rows of nine, one after another
-get_d_rows : (f : ℕ → List ℕ) → ((b : ℕ) → length (f b) ≡ 9) → (n a row col : ℕ) → row < n → col < 9 → get_or (flat_map f (range_with_len a n)) (9 * row + col) 0 ≡ get_or (f (a + row)) col 0
-get_d_rows f size zero a row col h l = absurd (omega arith)
-get_d_rows f size (suc n) a zero col h l =
-    let s = size a in
-    let at : 9 * 0 + col ≡ col = omega arith in
-    let here : a + 0 ≡ a = omega arith in
-    rw (at, here) (get_or_append_left (f a) (flat_map f (range_with_len (a + 1) n)) 0 col (omega arith))
-get_d_rows f size (suc n) a (suc row) col h l =
-    let s = size a in
-    let at : 9 * suc row + col - 9 ≡ 9 * row + col = omega arith in
-    let next : a + suc row ≡ a + 1 + row = omega arith in
-    get_or-append_right (f a) (flat_map f (range_with_len (a + 1) n)) 9 (9 * suc row + col) 0 s (omega arith)
-    ∙ ap (λ m. get_or (flat_map f (range_with_len (a + 1) n)) m 0) at
-    ∙ get_d_rows f size n (a + 1) row col (omega arith) l
-    ∙ ap (λ m. get_or (f m) col 0) (sym next)
+row_in_rows : (f : ℕ → List ℕ) → ((b : ℕ) → length (f b) ≡ 9) → (n a row : ℕ) → row < n → take 9 (drop (9 * row) (flat_map f (range_with_len a n))) ≡ f (a + row)
+row_in_rows f size zero a row h = absurd (omega arith)
+row_in_rows f size (suc n) a zero h = let here : a + 0 ≡ a = omega arith in take_at (f a) (flat_map f (range_with_len (a + 1) n)) 9 (size a) ∙ ap f (sym here)
+row_in_rows f size (suc n) a (suc row) h =
+    let more : 9 + 9 * row ≡ 9 * suc row = omega arith in
+    let next : a + 1 + row ≡ a + suc row = omega arith in
+    let rest = flat_map f (range_with_len (a + 1) n) in
+    ap (λ m. take 9 (drop m (f a ++ rest))) (sym more)
+    ∙ ap (take 9) (sym (drop-drop (9 * row) 9 (f a ++ rest)))
+    ∙ ap (λ xs. take 9 (drop (9 * row) xs)) (drop_at (f a) rest 9 (size a))
+    ∙ row_in_rows f size n (a + 1) row (omega arith)
+    ∙ ap f next
 
 pub length_bits_of : (n w : ℕ) → length (bits_of n w) ≤ n
 length_bits_of n w = let h = kept_fewer_all (bit_of w) (range_with_len 0 n) in let e = length-range_with_len 0 n in omega arith
@@ -33,9 +29,11 @@ pub length_row : (b : ℕ) → length (row_of b) ≡ 9
 unfolding row_of
 length_row b = let h = length_bits_of 8 b in simp (length-append, length-replicate) (omega arith)
 
--- the whole table: what stands in a row
-pub table_row : (row col : ℕ) → row < 256 → col < 9 → get_or (flat_map row_of (range_with_len 0 256)) (9 * row + col) 0 ≡ get_or (row_of row) col 0
-table_row row col h l = let e : 0 + row ≡ row = omega arith in get_d_rows row_of length_row 256 0 row col h l ∙ ap (λ m. get_or (row_of m) col 0) e
+-- the whole table: a row of it
+pub table_row : (row from n : ℕ) → row < 256 → from ≡ row → n ≡ 9 → take n (drop (9 * from) (flat_map row_of (range_with_len 0 256))) ≡ row_of row
+table_row row from n h e f =
+    let here : 0 + row ≡ row = omega arith in
+    ap₂ (λ m k. take m (drop (9 * k) (flat_map row_of (range_with_len 0 256)))) f e ∙ row_in_rows row_of length_row 256 0 row h ∙ ap row_of here
 
 -- the last of a row
 pub row_count : (b at : ℕ) → get_or (row_of b) 8 0 ≡ length (set_bits 8 b at)
@@ -71,12 +69,17 @@ row_step b at j r h e =
     let l : j < length ps = omega arith in
     drop_more ps j 0 l ∙ ap (λ p. p ∷ drop (j + 1) ps) (row_place b at j l ∙ ap (λ m. at + m) (sym e))
 
--- one turn of a walk along a row
-pub row_turn : {T : Type 0} {src out : List T} {total : ℕ} {final : List T} (b at pos j r : ℕ) (y : T) → Left src out (pos + j) (drop j (set_bits 8 b at)) total final → j < get_or (row_of b) 8 0 → r ≡ get_or (row_of b) j 0 → total ≤ length out → y ≡ get_or src (at + r) y → Left src (set out (pos + j) y) (pos + (j + 1)) (drop (j + 1) (set_bits 8 b at)) total final
-row_turn {src = src} {out = out} {total = total} {final = final} b at pos j r y h l e room is =
-    let rest = drop (j + 1) (set_bits 8 b at) in
-    let next : pos + j + 1 ≡ pos + (j + 1) = omega arith in
-    subst (λ n. Left src (set out (pos + j) y) n rest total final) next (left_one (at + r) rest y (left_same ((at + r) ∷ rest) (row_step b at j r l e) h) room is)
+-- the places of a row are as many as its last entry says
+pub row_items : (b at n : ℕ) (row : List ℕ) → row ≡ row_of b → n ≡ get_or row 8 0 → (length (take n row) ≡ n) × (n ≡ length (set_bits 8 b at))
+row_items b at n row e f =
+    let many : n ≡ length (set_bits 8 b at) = f ∙ ap (λ xs. get_or xs 8 0) e ∙ row_count b at in
+    let long = ap length e ∙ length_row b in
+    let short = row_short b at in
+    (length-take-le n row (omega arith), many)
 
-pub row_inside : (n b at j r : ℕ) → Inside n (drop j (set_bits 8 b at)) → j < get_or (row_of b) 8 0 → r ≡ get_or (row_of b) j 0 → at + r < n
-row_inside n b at j r h l e = let i : Inside n ((at + r) ∷ drop (j + 1) (set_bits 8 b at)) = subst (Inside n) (row_step b at j r l e) h in i.0
+-- one of them, and the rest
+pub row_told : (b at n j r : ℕ) (row : List ℕ) → row ≡ row_of b → n ≡ get_or row 8 0 → j < length (take n row) → r ≡ get_or (take n row) j 0 → drop j (set_bits 8 b at) ≡ (at + r) ∷ drop (j + 1) (set_bits 8 b at)
+row_told b at n j r row e f l i =
+    let m : n ≡ get_or (row_of b) 8 0 = f ∙ ap (λ xs. get_or xs 8 0) e in
+    let items = row_items b at n row e f in
+    row_step b at j r (omega arith) (i ∙ get_or-take n row j 0 (omega arith) ∙ ap (λ xs. get_or xs j 0) e)

@@ -7,11 +7,12 @@ use lib.Pow.{shr_le}
 use Rattle.std.specs.List.{range_with_len}
 use Rattle.std.proofs.lemmas.Nat.{trailing_le}
 use Rattle.std.proofs.lemmas.List.FromFn.{length-range_with_len}
-use Rattle.kernels.specs.Moved.{splice}
+use Rattle.kernels.specs.declared.sink.Sink.{Sink}
 use Rattle.kernels.specs.Masks.{set_bits}
+use Rattle.kernels.specs.Sinks.{Puts}
 use Rattle.kernels.proofs.Gathered.{gather_counting}
 use Rattle.kernels.proofs.SetBits.{bits_ones, bits_past_zeros, counting_inside, half_shr, parity, zeros_even, zeros_odd}
-use Rattle.kernels.proofs.Masked.{Left, left_first, left_same, left_turn}
+use Rattle.kernels.proofs.Putting.{Left, left_first, left_same, left_turn}
 
 -- the lowest set bit of a number below 2 ^ k is below bit k
 pub trailing_lt : (k n : ℕ) → 0 < n → n < 2 ^ k → count_trailing_zeros k n < k
@@ -67,22 +68,21 @@ first_run w from n p h e =
     }
 
 -- the run lies inside, and has room
-pub run_fits : {T : Type 0} {src out : List T} {at total : ℕ} {final : List T} (w from n : ℕ) → FirstRun w from n → Left src out at (set_bits 64 w from) total final → total ≤ length out → (from + count_trailing_zeros 64 w + n ≤ length src) × (at + n ≤ length out)
-run_fits {src = src} {out = out} w from n r h l =
+pub run_fits : {T : Type 0} {src all : List T} {sink first : Sink T} (w from n : ℕ) → FirstRun w from n → Left src (set_bits 64 w from) sink all first → (from + count_trailing_zeros 64 w + n ≤ length src) × (sink.at + n ≤ length sink.places.now)
+run_fits {src = src} w from n r l =
     let run = range_with_len (from + count_trailing_zeros 64 w) n in
     let rest = set_bits 64 (w / 2 ^ count_trailing_zeros 64 w / 2 ^ 1 / 2 ^ (n - 1)) (from + count_trailing_zeros 64 w + n) in
-    let first = left_first run rest (left_same (run ++ rest) r.parts h) l in
+    let fits = left_first run rest (left_same (run ++ rest) r.parts l) in
     let size = length-range_with_len (from + count_trailing_zeros 64 w) n in
-    let room = first.1 in
-    (counting_inside (length src) (from + count_trailing_zeros 64 w) n first.0 r.some, omega arith)
+    let room = fits.room in
+    (counting_inside (length src) (from + count_trailing_zeros 64 w) n fits.inside r.some, omega arith)
 
--- the run is written
-pub run_turn : {T : Type 0} {src out : List T} {at total : ℕ} {final : List T} (w from n : ℕ) (out' : List T) → FirstRun w from n → Left src out at (set_bits 64 w from) total final → total ≤ length out → out' ≡ splice out at (take n (drop (from + count_trailing_zeros 64 w) src)) → Left src out' (at + n) (set_bits 64 (w / 2 ^ count_trailing_zeros 64 w / 2 ^ 1 / 2 ^ (n - 1)) (from + count_trailing_zeros 64 w + n)) total final
-run_turn {src = src} {out = out} {at = at} w from n out' r h l e =
+-- the run is put
+pub run_turn : {T : Type 0} {src all : List T} {sink first : Sink T} (w from n : ℕ) (next : Sink T) → FirstRun w from n → Left src (set_bits 64 w from) sink all first → Puts (take n (drop (from + count_trailing_zeros 64 w) src)) sink next → Left src (set_bits 64 (w / 2 ^ count_trailing_zeros 64 w / 2 ^ 1 / 2 ^ (n - 1)) (from + count_trailing_zeros 64 w + n)) next all first
+run_turn {src = src} {sink = sink} w from n next r l put =
     let run = range_with_len (from + count_trailing_zeros 64 w) n in
     let rest = set_bits 64 (w / 2 ^ count_trailing_zeros 64 w / 2 ^ 1 / 2 ^ (n - 1)) (from + count_trailing_zeros 64 w + n) in
-    let size = length-range_with_len (from + count_trailing_zeros 64 w) n in
-    left_turn run rest (at + n) out' (left_same (run ++ rest) r.parts h) l (ap (λ m. at + m) (sym size)) (e ∙ ap (splice out at) (sym (gather_counting src n (from + count_trailing_zeros 64 w))))
+    left_turn run rest next (left_same (run ++ rest) r.parts l) (subst (λ vs. Puts vs sink next) (sym (gather_counting src n (from + count_trailing_zeros 64 w))) put)
 
 -- some of the bits of a word are at most 64
 pub part_ones : (w x : ℕ) → w < 2 ^ 64 → ones (bit_and w x) ≤ 64

@@ -1,10 +1,11 @@
 -- The set bits of a number, taken apart.
-use Rattle.std.proofs.Common.{◌≡◌, ℕ, zero, suc, ◌+◌, ◌-◌, ◌*◌, ◌/◌, ◌%◌, ◌^◌, ◌<◌, ◌≤◌, Bool, true, false, cond, eqb, ◌⊎◌, [], ◌∷◌, ◌++◌, map, filter, sym, refl, ap, ◌∙◌, ap₂, inl, inr, suc-add, pow-suc, add-one, one-add, arith, pow_pos, shr-shr}
+use Rattle.std.proofs.Common.{◌≡◌, ℕ, zero, suc, ◌+◌, ◌-◌, ◌*◌, ◌/◌, ◌%◌, ◌^◌, ◌<◌, ◌≤◌, Bool, true, false, cond, eqb, ◌⊎◌, List, [], ◌∷◌, ◌++◌, get_or, map, filter, sym, refl, ap, ◌∙◌, ap₂, inl, inr, suc-add, pow-suc, add-one, one-add, arith, pow_pos, shr-shr}
 use native.Mathlib.Nat.{div-eq_of_lt}
 use lib.Arith.{lt-one}
 use lib.Bits.{bit_and, and_step, and_self}
 use lib.Count.{count_trailing_zeros}
 use lib.Pow.{shr_le}
+use Rattle.std.specs.Int.{to_le_bytes, w64}
 use Rattle.std.specs.List.{range_with_len, AllByRecursion}
 use Rattle.std.proofs.lemmas.Nat.{field_of, mod-pow-add}
 use Rattle.std.proofs.lemmas.List.{append-nil}
@@ -211,3 +212,29 @@ bits_byte w at b h =
     let place : p + 8 ≡ at + 8 * (b + 1) = omega arith in
     let above : v / 2 ^ 8 ≡ w / 2 ^ (8 * (b + 1)) = shr-shr w (8 * b) 8 ∙ ap (λ n. w / 2 ^ n) next in
     ap (λ k. set_bits k v p) on ∙ bits_split 8 m v p ∙ ap₂ (λ xs ys. xs ++ ys) (sym (bits_low 8 v p)) (ap₂ (set_bits m) above place)
+
+-- what an iterator over the set bits says of them, from a place on
+pub bits_next : (w v j at : ℕ) → set_bits 64 w 0 ≡ j ∷ set_bits 64 v 0 → set_bits 64 w at ≡ (at + j) ∷ set_bits 64 v at
+bits_next w v j at e =
+    let a : at + 0 ≡ at = omega arith in
+    ap (set_bits 64 w) (sym a) ∙ bits_moved 64 w at 0 ∙ ap (map (λ i. at + i)) e ∙ ap (λ ys. (at + j) ∷ ys) (sym (bits_moved 64 v at 0) ∙ ap (set_bits 64 v) a)
+
+pub bits_over : (w at : ℕ) → set_bits 64 w 0 ≡ [] → set_bits 64 w at ≡ []
+bits_over w at e =
+    let a : at + 0 ≡ at = omega arith in
+    ap (set_bits 64 w) (sym a) ∙ bits_moved 64 w at 0 ∙ ap (map (λ i. at + i)) e
+
+byte_of : (w b : ℕ) → b < 8 → get_or (to_le_bytes w64 w) b 0 ≡ w / 2 ^ (8 * b) % 256
+byte_of w zero h = let e : w / 2 ^ (8 * 0) ≡ w = omega arith in ap (λ v. v % 256) (sym e)
+byte_of w (suc zero) h = refl
+byte_of w (suc (suc zero)) h = refl
+byte_of w (suc (suc (suc zero))) h = refl
+byte_of w (suc (suc (suc (suc zero)))) h = refl
+byte_of w (suc (suc (suc (suc (suc zero))))) h = refl
+byte_of w (suc (suc (suc (suc (suc (suc zero)))))) h = refl
+byte_of w (suc (suc (suc (suc (suc (suc (suc zero))))))) h = refl
+byte_of w (suc (suc (suc (suc (suc (suc (suc (suc b)))))))) h = absurd (omega arith)
+
+-- the same, of its bytes
+pub bits_bytes : (w at b : ℕ) (bytes : List ℕ) → b < 8 → bytes ≡ to_le_bytes w64 w → set_bits (64 - 8 * b) (w / 2 ^ (8 * b)) (at + 8 * b) ≡ set_bits 8 (get_or bytes b 0) (at + 8 * b) ++ set_bits (64 - 8 * (b + 1)) (w / 2 ^ (8 * (b + 1))) (at + 8 * (b + 1))
+bits_bytes w at b bytes h e = bits_byte w at b h ∙ ap (λ v. set_bits 8 v (at + 8 * b) ++ set_bits (64 - 8 * (b + 1)) (w / 2 ^ (8 * (b + 1))) (at + 8 * (b + 1))) (sym (ap (λ bs. get_or bs b 0) e ∙ byte_of w b h))

@@ -1,9 +1,12 @@
 //! Compaction by a table of bytes.
-ghost use Rattle.std.specs.Prelude.{◌≡◌, ◌+◌, ◌^◌, ◌<◌, ◌≤◌, length, slice_index};
-ghost use Rattle.kernels.specs.Moved.{gather, splice};
-ghost use Rattle.kernels.specs.Masks.{Covers, Inside, Masks, compacted, mask_positions, row_of, selected_by, set_bits};
+ghost use Rattle.std.specs.Prelude.{◌≡◌, ◌<◌, ◌≤◌, length, slice_index};
+ghost use Rattle.kernels.specs.Moved.{gather};
+ghost use Rattle.kernels.specs.Masks.{Masks, compacted, row_of, selected_by, set_bits};
+ghost use Rattle.kernels.specs.Sinks.{Fits, Puts};
 
-use super::slice::{MaskBits, copy_to};
+use super::compaction::{WordStep, compact};
+use super::sink::Sink;
+use super::slice::MaskBits;
 
 /// For each byte a row of nine: its set bits, the lowest first, with 0 up to the eighth place, and their number.
 const BYTE_TABLE: [u8; 2304] = [
@@ -85,76 +88,49 @@ const BYTE_TABLE: [u8; 2304] = [
 pub fn table_entry(row: u8, column: usize) -> u8
     ensures { result ≡ slice_index (row_of row) column }
 {
-    if column < 9 {
-        row_entry(row, column)
-    } else {
-        0
+    row_at(row).get(column).copied().unwrap_or(0)
+}
+
+/// The row of a byte.
+fn row_at(byte: u8) -> &'static [u8]
+    ensures { result.now ≡ row_of byte }
+{
+    let from = 9 * usize::from(byte);
+    &BYTE_TABLE[from..from + 9]
+}
+
+/// The table says which elements each byte selects, and a full byte is one copy.
+pub(crate) struct ByTable;
+
+impl WordStep for ByTable {
+    fn put_word<T: Copy>(src: &[T], word: u64, base: usize, sink: &mut Sink<'_, T>) {
+        for (b, byte) in word.to_le_bytes().iter().enumerate() {
+            put_byte(src, *byte, base + 8 * b, sink);
+        }
     }
 }
 
-fn row_entry(row: u8, column: usize) -> u8
-    requires { column < 9 }
-    ensures { result ≡ slice_index (row_of row) column }
-{
-    BYTE_TABLE[9 * row as usize + column]
-}
-
-/// Copies the elements at the set bits of a byte, whose lowest bit stands for `base`, one by one.
-fn walk_row<T: Copy>(src: &[T], byte: u8, base: usize, dst: &mut [T], pos: usize) -> usize
-    requires inside { Inside (length src.now) (set_bits 8 byte base) }
-    requires room { pos + length (set_bits 8 byte base) ≤ length dst.old }
-    ensures count { result ≡ pos + length (set_bits 8 byte base) }
-    ensures written { dst.new ≡ splice dst.old pos (gather src.now (set_bits 8 byte base)) }
-{
-    let n = row_entry(byte, 8) as usize;
-    for j in 0..n {
-        dst[pos + j] = src[base + row_entry(byte, j) as usize];
-    }
-    pos + n
-}
-
-/// Copies the elements at the set bits of a byte, and all eight as a block.
-fn compress_byte<T: Copy>(src: &[T], byte: u8, base: usize, dst: &mut [T], pos: usize) -> usize
-    requires inside { Inside (length src.now) (set_bits 8 byte base) }
-    requires room { pos + length (set_bits 8 byte base) ≤ length dst.old }
-    ensures count { result ≡ pos + length (set_bits 8 byte base) }
-    ensures written { dst.new ≡ splice dst.old pos (gather src.now (set_bits 8 byte base)) }
+/// Puts the elements at the set bits of a byte, whose lowest bit stands for `base`: all eight as a block.
+fn put_byte<T: Copy>(src: &[T], byte: u8, base: usize, sink: &mut Sink<'_, T>)
+    requires { Fits src.now (set_bits 8 byte base) sink.old }
+    ensures { Puts (gather src.now (set_bits 8 byte base)) sink.old sink.new }
 {
     if byte == 255 {
-        copy_to(src, base, 8, dst, pos);
-        return pos + 8;
+        sink.put_run(src, base, 8);
+    } else {
+        put_row(src, byte, base, sink);
     }
-    walk_row(src, byte, base, dst, pos)
 }
 
-/// Copies the elements at the set bits of a word, byte by byte.
-fn compress_word<T: Copy>(src: &[T], word: u64, base: usize, dst: &mut [T], pos: usize) -> usize
-    requires fits { base + 64 ≤ 2 ^ 64 }
-    requires inside { Inside (length src.now) (set_bits 64 word base) }
-    requires room { pos + length (set_bits 64 word base) ≤ length dst.old }
-    ensures count { result ≡ pos + length (set_bits 64 word base) }
-    ensures written { dst.new ≡ splice dst.old pos (gather src.now (set_bits 64 word base)) }
+/// Puts the elements at the set bits of a byte, one by one.
+fn put_row<T: Copy>(src: &[T], byte: u8, base: usize, sink: &mut Sink<'_, T>)
+    requires { Fits src.now (set_bits 8 byte base) sink.old }
+    ensures { Puts (gather src.now (set_bits 8 byte base)) sink.old sink.new }
 {
-    let mut at = pos;
-    for b in 0..8 {
-        at = compress_byte(src, ((word >> (8 * b)) % 256) as u8, base + 8 * b, dst, at);
+    let row = row_at(byte);
+    for place in &row[..usize::from(row[8])] {
+        sink.put(src[base + usize::from(*place)]);
     }
-    at
-}
-
-/// Copies the selected elements of `src` to the first places of `dst`, and says how many there are.
-/// The table says which elements a byte selects.
-pub fn compress_words<T: Copy>(src: &[T], words: &[u64], dst: &mut [T]) -> usize
-    requires mask { Covers words.now (length src.now) }
-    requires room { length (mask_positions words.now (length src.now)) ≤ length dst.old }
-    ensures count { result ≡ length (mask_positions words.now (length src.now)) }
-    ensures written { dst.new ≡ compacted src.now (mask_positions words.now (length src.now)) dst.old }
-{
-    let mut pos = 0;
-    for k in 0..words.len() {
-        pos = compress_word(src, words[k], 64 * k, dst, pos);
-    }
-    pos
 }
 
 /// Copies the selected elements of `src` to the first places of `dst`, and says how many there are.
@@ -165,9 +141,5 @@ pub fn compress_bits<T: Copy>(src: &[T], bits: MaskBits<'_>, dst: &mut [T]) -> u
     ensures count { result ≡ length (selected_by bits.entry) }
     ensures written { dst.new ≡ compacted src.now (selected_by bits.entry) dst.old }
 {
-    let mut pos = 0;
-    for k in 0..bits.words() {
-        pos = compress_word(src, bits.word(k), 64 * k, dst, pos);
-    }
-    pos
+    compact::<ByTable, T>(src, bits, dst)
 }

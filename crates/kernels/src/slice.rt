@@ -42,8 +42,8 @@ pub fn copy_at<T: Copy>(src: &[T], indices: &[u64], up: u64, down: u64, dst: &mu
     requires inside { AllByRecursion (Within up down (length src.now)) indices.now }
     ensures { dst.new ≡ splice dst.old 0 (gather src.now (map (shifted up down) indices.now)) }
 {
-    for k in 0..indices.len() {
-        dst[k] = src[(indices[k] + up - down) as usize];
+    for (place, index) in indices.iter().enumerate() {
+        dst[place] = src[(index + up - down) as usize];
     }
 }
 
@@ -63,88 +63,4 @@ pub fn copy_to<T: Copy>(src: &[T], from: usize, n: usize, dst: &mut [T], pos: us
     ensures { dst.new ≡ splice dst.old pos (take n (drop from src.now)) }
 {
     dst[pos..pos + n].copy_from_slice(&src[from..from + n]);
-}
-
-/// Copies the elements at the set bits of a word, whose lowest bit stands for `base`, one by one.
-fn walk_word<T: Copy>(src: &[T], word: u64, base: usize, dst: &mut [T], pos: usize) -> usize
-    requires inside { Inside (length src.now) (set_bits 64 word base) }
-    requires room { pos + length (set_bits 64 word base) ≤ length dst.old }
-    ensures count { result ≡ pos + length (set_bits 64 word base) }
-    ensures written { dst.new ≡ splice dst.old pos (gather src.now (set_bits 64 word base)) }
-{
-    let mut at = pos;
-    let mut m = word;
-    while m != 0 {
-        dst[at] = src[base + m.trailing_zeros() as usize];
-        at += 1;
-        m &= m - 1;
-    }
-    at
-}
-
-/// Copies the elements at the set bits of a word, and all 64 as a block.
-fn compact_word<T: Copy>(src: &[T], word: u64, base: usize, dst: &mut [T], pos: usize) -> usize
-    requires inside { Inside (length src.now) (set_bits 64 word base) }
-    requires room { pos + length (set_bits 64 word base) ≤ length dst.old }
-    ensures count { result ≡ pos + length (set_bits 64 word base) }
-    ensures written { dst.new ≡ splice dst.old pos (gather src.now (set_bits 64 word base)) }
-{
-    if word == u64::MAX {
-        copy_to(src, base, 64, dst, pos);
-        return pos + 64;
-    }
-    walk_word(src, word, base, dst, pos)
-}
-
-/// Copies the selected elements of `src` to the first places of `dst`, and says how many there are.
-/// Each set bit is one copy, and a full word is one copy.
-pub fn compact_by_bitmap<T: Copy>(src: &[T], bits: MaskBits<'_>, dst: &mut [T]) -> usize
-    requires mask { Masks bits (length src.now) }
-    requires room { length (selected_by bits) ≤ length dst.old }
-    ensures count { result ≡ length (selected_by bits.entry) }
-    ensures written { dst.new ≡ compacted src.now (selected_by bits.entry) dst.old }
-{
-    let mut pos = 0;
-    for k in 0..bits.words() {
-        pos = compact_word(src, bits.word(k), 64 * k, dst, pos);
-    }
-    pos
-}
-
-/// Copies the elements at the set bits of a word, run by run.
-fn walk_runs<T: Copy>(src: &[T], word: u64, base: usize, dst: &mut [T], pos: usize) -> usize
-    requires inside { Inside (length src.now) (set_bits 64 word base) }
-    requires room { pos + length (set_bits 64 word base) ≤ length dst.old }
-    ensures count { result ≡ pos + length (set_bits 64 word base) }
-    ensures written { dst.new ≡ splice dst.old pos (gather src.now (set_bits 64 word base)) }
-{
-    let mut w = word;
-    let mut from = base;
-    let mut at = pos;
-    while w != 0 {
-        let z = w.trailing_zeros();
-        w >>= z;
-        from += z as usize;
-        let n = w.trailing_ones() as usize;
-        copy_to(src, from, n, dst, at);
-        from += n;
-        at += n;
-        w = (w >> 1) >> (n - 1);
-    }
-    at
-}
-
-/// Copies the selected elements of `src` to the first places of `dst`, and says how many there are.
-/// Each run of set bits in a word is one copy.
-pub fn compact_runs_by_bitmap<T: Copy>(src: &[T], bits: MaskBits<'_>, dst: &mut [T]) -> usize
-    requires mask { Masks bits (length src.now) }
-    requires room { length (selected_by bits) ≤ length dst.old }
-    ensures count { result ≡ length (selected_by bits.entry) }
-    ensures written { dst.new ≡ compacted src.now (selected_by bits.entry) dst.old }
-{
-    let mut pos = 0;
-    for k in 0..bits.words() {
-        pos = walk_runs(src, bits.word(k), 64 * k, dst, pos);
-    }
-    pos
 }

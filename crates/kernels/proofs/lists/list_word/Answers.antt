@@ -1,29 +1,23 @@
-use Rattle.std.proofs.Common.{◌≡◌, ◌+◌, ◌-◌, ◌<◌, ◌≤◌, length, arith}
-use lib.Bits.{and_le_l}
+use Rattle.std.proofs.Common.{◌+◌, [], ◌∷◌, subst}
 use Rattle.kernels.specs.Masks.{set_bits}
-use Rattle.kernels.proofs.Listed.{walk_done, walk_rest}
+use Rattle.kernels.specs.Sinks.{Puts}
+use Rattle.kernels.proofs.Putting.{rest_done, rest_one, rest_same, rest_turn}
+use Rattle.kernels.proofs.SetBits.{bits_next, bits_over}
 use Rattle.kernels.proofs.lists.list_word.Goals as goal
 
-pub bounds-out-at : goal.bounds-out-at
-bounds-out-at c =
-    let inv = c.loop-m.invariant in
-    let p : 0 < c.loop-m.m = omega arith in
-    let room : c.args.pos + length (set_bits 64 c.args.word c.args.base) ≤ length c.loop-m.out = let r = c.requires.room in omega arith in
-    let turn = walk_rest c.loop-m.m c.args.base p inv.0 inv.1 room in
-    omega arith
+pub put-requires : goal.put-requires
+put-requires c =
+    let base = c.args.base in
+    let more = set_bits 64 c.next.new.self.0 base in
+    let at = base + c.in-Some.place in
+    rest_one at more (rest_same (at ∷ more) (bits_next c.loop-place.place-iterator.0 c.next.new.self.0 c.in-Some.place base c.in-Some.ensures.steps) c.loop-place.invariant.2)
 
-pub loop-m-preserved : goal.loop-m-preserved
-loop-m-preserved c =
-    let m = c.loop-m.m in
-    let inv = c.loop-m.invariant in
-    let p : 0 < m = omega arith in
-    let room : c.args.pos + length (set_bits 64 c.args.word c.args.base) ≤ length c.loop-m.out = let r = c.requires.room in omega arith in
-    let turn = walk_rest m c.args.base p inv.0 inv.1 room in
-    let le = and_le_l m (m - 1) in
-    (omega arith, turn.1)
+pub loop-place-preserved : goal.loop-place-preserved
+loop-place-preserved c =
+    let base = c.args.base in
+    let more = set_bits 64 c.next.new.self.0 base in
+    let at = base + c.in-Some.place in
+    (tt, tt, rest_turn (at ∷ []) more c.put.new.self (rest_same (at ∷ more) (bits_next c.loop-place.place-iterator.0 c.next.new.self.0 c.in-Some.place base c.in-Some.ensures.steps) c.loop-place.invariant.2) (subst (λ j. Puts ((base + j) ∷ []) c.loop-place.sink c.put.new.self) c.from.ensures c.put.ensures))
 
 pub returns : goal.returns
-returns c =
-    let z : c.loop-m.m ≡ 0 = omega arith in
-    let done = walk_done c.loop-m.m c.args.base z c.loop-m.invariant.1 in
-    record { count = done.0; written = done.1 }
+returns c = rest_done (rest_same [] (bits_over c.loop-place.place-iterator.0 c.args.base c.in-None.ensures.steps.0) c.loop-place.invariant.2)
