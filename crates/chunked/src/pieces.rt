@@ -2,11 +2,11 @@
 ghost use Rattle.std.specs.Prelude.{◌≡◌, ℕ, ◌+◌, ◌-◌, ◌*◌, ◌^◌, ◌<◌, ◌≤◌, List, map, length};
 ghost use Rattle.std.specs.Coded.{le_prop};
 ghost use Rattle.std.specs.List.{range_with_len, AllByRecursion, AllByRecursion-prop};
-ghost use Rattle.kernels.specs.Masks.{Covers, mask_positions};
+ghost use Rattle.kernels.specs.Masks.{Masks, selected_by};
 ghost use Rattle.kernels.specs.Moved.{Within, gather, shifted, splice};
 ghost use Rattle.chunked.specs.Spans.{Spans, in_span, span_end, span_start};
 
-use kernels::{Element, compact_words, copy_at, copy_part, list_words};
+use kernels::{Element, MaskBits, compact_words, copy_at, copy_part, list_words};
 use selection::Run;
 use source::CHUNK;
 
@@ -169,32 +169,32 @@ fn copy_runs<T: Copy>(
     }
 }
 
-/// What words select of `len` indices, from index `up` of the chunk on.
+/// What a mask of `len` indices selects, from index `up` of the chunk on.
 #[derive(Drop)]
 pub(crate) struct MaskPiece<'a> {
-    pub(crate) words: &'a [u64],
+    pub(crate) bits: MaskBits<'a>,
     pub(crate) len: usize,
     pub(crate) up: u64,
     pub(crate) count: u64,
-    ghost covers: { Covers words.now len },
+    ghost mask: { Masks bits len },
     ghost chunk: { up + len ≤ 1024 },
-    ghost counted: { count ≡ length (mask_positions words.now len) },
+    ghost counted: { count ≡ length (selected_by bits) },
 }
 
 impl<'a> Piece for MaskPiece<'a> {
-    ghost picks = { λ p. map (shifted p.up 0) (mask_positions p.words.now p.len) };
+    ghost picks = { λ p. map (shifted p.up 0) (selected_by p.bits) };
 
     fn count(&self) -> u64 {
         self.count
     }
 
     fn list(&self, out: &mut [u64]) {
-        let _ = list_words(self.words, self.len, self.up, out);
+        let _ = list_words(self.bits, self.up, out);
     }
 
     fn copy<T: Element>(&self, chunk: &[T], dst: &mut [T]) {
         let first = self.up as usize;
         let n = self.count as usize;
-        let _ = compact_words(&chunk[first..first + self.len], self.words, n, dst);
+        let _ = compact_words(&chunk[first..first + self.len], self.bits, n, dst);
     }
 }

@@ -12,7 +12,7 @@ ghost use Rattle.chunked.specs.Spans.{EndsBy, in_span};
 ghost use Rattle.source.specs.Fetched.{fetch_fault, holding, place_in, whole_chunk};
 
 use super::pieces::{IndexPiece, MaskPiece, Piece, RunPiece, cut_run};
-use kernels::sparse_limit;
+use kernels::{MaskBits, sparse_limit};
 use selection::{Run, Selection, Window};
 use settle::{Push, chunk_boundary};
 use source::{CHUNK, ChunkDecoder};
@@ -224,7 +224,7 @@ impl<'a, D: ChunkDecoder> Delivery<'a, D> {
         let count = load_words(window, from, to - from, words);
         if count > 0 {
             let piece = MaskPiece {
-                words,
+                bits: MaskBits::Words { words, len },
                 len,
                 up: from + offset - chunk * CHUNK,
                 count,
