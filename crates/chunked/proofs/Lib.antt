@@ -5,3 +5,6 @@ pub mod Serving
 pub mod Spanning
 pub mod Cursor
 pub mod Windows
+pub mod Walks
+pub mod RunWalks
+pub mod BitmapWalks

@@ -1,7 +1,7 @@
 -- Serving places chunk by chunk.
 use Rattle.std.proofs.Common.{◌≡◌, ℕ, zero, suc, ◌+◌, ◌-◌, ◌*◌, ◌/◌, ◌<◌, ◌≤◌, Bool, true, false, ltb, List, [], ◌∷◌, ◌++◌, map, length, take, drop, Some, None, filter, Option, sym, refl, ap, ◌∙◌, subst, ap₂, arith}
 use Rattle.std.specs.List.{between, AllByRecursion, range_with_len}
-use Rattle.std.proofs.ByRecursion.{All-get_or, All-map, All-take, All-weaker}
+use Rattle.std.proofs.ByRecursion.{All-get_or, All-take, All-weaker}
 use Rattle.std.proofs.lemmas.List.{length-drop, length-map, length-take, length-take-le, take_all, take_at}
 use Rattle.std.proofs.lemmas.List.Edits.{length-between}
 use Rattle.std.proofs.lemmas.Bool.{leb-false, ltb-false}
@@ -122,74 +122,84 @@ module _ {T : Type 0} (L : ℕ) (s : Store T) (pos c : ℕ) (ys : List ℕ) (ok 
           laid = ap (λ o. overlaid s.readings s.scratch o) (sym (none_when (compacted L (length ys)) c (grind (arith, nat_tests))));
         }
 
--- ascending indices of one chunk at an offset
-module _ {T : Type 0} (L : ℕ) (s : Store T) (pos c offset : ℕ) (is : List ℕ) (ok : Servable (offered L s pos) c (at offset is)) (whole : Whole s.readings) where
-  count : length (at offset is) ≡ length is
-  count = length-map is (moved offset)
+-- places that are not moved
+pub at_zero : (ys : List ℕ) → at 0 ys ≡ ys
+at_zero [] = refl
+at_zero (y ∷ ys) = let e : 0 + y ≡ y = omega arith in ap₂ (λ x xs. x ∷ xs) e (at_zero ys)
 
-  pub inside : (m : ℕ) → 1024 ≤ m → AllByRecursion (Within offset (c * 1024) m) is
-  inside m h =
-      let chunk = ok.chunk in
-      let few = whole.1 in
-      All-weaker (λ i. (1024 * c ≤ moved offset i) × (moved offset i < 1024 * c + 1024)) (Within offset (c * 1024) m) (λ i l. record { fits = omega arith; above = omega arith; below = omega arith }) is
-      (all_of_map (λ p. (1024 * c ≤ p) × (p < 1024 * c + 1024)) (moved offset) is (rising_all (1024 * c) (1024 * c + 1024) (at offset is) ok.rising))
+-- indices of one chunk whose places may be served
+module _ {T : Type 0} (L : ℕ) (s : Store T) (pos c : ℕ) (js : List ℕ) (ok : Servable (offered L s pos) c (map (place_in c) js)) (whole : Whole s.readings) where
+  count : length (map (place_in c) js) ≡ length js
+  count = length-map js (place_in c)
 
-  pub below : AllByRecursion (λ j. j < 1024) (map (shifted offset (c * 1024)) is)
-  below = All-map (λ j. j < 1024) (shifted offset (c * 1024)) is (All-weaker (Within offset (c * 1024) 1024) (λ i. shifted offset (c * 1024) i < 1024) (λ i h. h.below) is (inside 1024 (omega arith)))
+  below : AllByRecursion (λ j. j < 1024) js
+  below =
+      All-weaker (λ j. (1024 * c ≤ place_in c j) × (place_in c j < 1024 * c + 1024)) (λ j. j < 1024) (λ j l. omega arith) js
+      (all_of_map (λ p. (1024 * c ≤ p) × (p < 1024 * c + 1024)) (place_in c) js (rising_all (1024 * c) (1024 * c + 1024) (map (place_in c) js) ok.rising))
 
-  pub back : map (place_in c) (map (shifted offset (c * 1024)) is) ≡ at offset is
-  back = map_map (place_in c) (shifted offset (c * 1024)) is ∙ map_same (λ i. place_in c (shifted offset (c * 1024) i)) (moved offset) is (All-weaker (Within offset (c * 1024) 1024) (λ i. place_in c (shifted offset (c * 1024) i) ≡ moved offset i) (λ i h. let above = h.above in omega arith) is (inside 1024 (omega arith)))
-
-  pub clear_sparse : (js : List ℕ) → js ≡ map (shifted offset (c * 1024)) is → length is ≤ L → fetch_fault (holding s.readings s.allowance (drop pos s.output)) c js ≡ None
+  pub clear_sparse : (is : List ℕ) → is ≡ js → length js ≤ L → fetch_fault (holding s.readings s.allowance (drop pos s.output)) c is ≡ None
   unfolding fetch_fault
-  clear_sparse js e few =
-      let n : length js ≡ length is = ap length e ∙ length-map is (shifted offset (c * 1024)) in
+  clear_sparse is e few =
+      let n : length is ≡ length js = ap length e in
       let all = count in
       let pay = ok.payable in
-      let cost : price L (length (at offset is)) ≡ length is = grind (arith, nat_tests) in
+      let cost : price L (length (map (place_in c) js)) ≡ length js = grind (arith, nat_tests) in
       let fits = ok.fits in
-      admits (chunks_of s.readings) s.allowance (length (drop pos s.output)) c js (record { chunk = ok.chunk; indices = rw e below; places = simp length-drop (omega arith); payable = omega arith })
+      admits (chunks_of s.readings) s.allowance (length (drop pos s.output)) c is (record { chunk = ok.chunk; indices = rw e below; places = simp length-drop (omega arith); payable = omega arith })
 
   -- some readings of the chunk, one by one
-  pub sparse : (xs : List T) (left : ℕ) (out : List T) (js : List ℕ) → length is ≤ L → js ≡ map (shifted offset (c * 1024)) is → Fetch s.readings xs s.allowance left s.output out pos c js → Leaves L s pos c (at offset is) xs left out s.scratch
-  sparse xs left out js few e h =
-      let n : length js ≡ length is = ap length e ∙ length-map is (shifted offset (c * 1024)) in
+  pub sparse : (xs : List T) (left : ℕ) (out : List T) (is : List ℕ) → length js ≤ L → is ≡ js → Fetch s.readings xs s.allowance left s.output out pos c is → Leaves L s pos c (map (place_in c) js) xs left out s.scratch
+  sparse xs left out is few e h =
+      let n : length is ≡ length js = ap length e in
       let all = count in
       let paid = h.paid in
       record {
         kept = h.kept;
         paid = grind (arith, nat_tests);
-        wrote = h.wrote ∙ ap (λ ps. splice s.output pos (gather s.readings ps)) (ap (map (place_in c)) e ∙ back);
-        laid = ap (λ o. overlaid s.readings s.scratch o) (sym (none_when (compacted L (length (at offset is))) c (grind (arith, nat_tests))));
+        wrote = h.wrote ∙ ap (λ ps. splice s.output pos (gather s.readings (map (place_in c) ps))) e;
+        laid = ap (λ o. overlaid s.readings s.scratch o) (sym (none_when (compacted L (length (map (place_in c) js))) c (grind (arith, nat_tests))));
       }
 
   -- the chunk through scratch
-  pub through : (xs : List T) (left : ℕ) (part out aside : List T) → L < length is → (length is ≡ 1024 → ⊥) → Fetch s.readings xs s.allowance left s.scratch aside 0 c whole_chunk → part ≡ splice (drop pos s.output) 0 (gather aside (map (shifted offset (c * 1024)) is)) → out ≡ take pos s.output ++ part → Leaves L s pos c (at offset is) xs left out aside
+  pub through : (xs : List T) (left : ℕ) (part out aside : List T) → L < length js → (length js ≡ 1024 → ⊥) → Fetch s.readings xs s.allowance left s.scratch aside 0 c whole_chunk → part ≡ splice (drop pos s.output) 0 (gather aside js) → out ≡ take pos s.output ++ part → Leaves L s pos c (map (place_in c) js) xs left out aside
   through xs left part out aside more not-all h e f =
       let all = count in
       let size = whole_length in
-      let most = part_most L s pos c (at offset is) ok in
+      let most = part_most L s pos c (map (place_in c) js) ok in
       let paid = h.paid in
       let chunk = ok.chunk in
       let even = whole.0 in
-      let js = map (shifted offset (c * 1024)) is in
       let laid : aside ≡ splice s.scratch 0 (take 1024 (drop (1024 * c) s.readings)) = h.wrote ∙ ap (splice s.scratch 0) (whole_gathered s.readings c) in
-      let values : gather aside js ≡ gather s.readings (at offset is) = ap (λ zs. gather zs js) laid ∙ gather_part s.readings s.scratch (1024 * c) 1024 js below (omega arith) ∙ ap (gather s.readings) back in
-      let goes : compacted L (length (at offset is)) ≡ true = grind (arith, nat_tests) in
+      let values : gather aside js ≡ gather s.readings (map (place_in c) js) = ap (λ zs. gather zs js) laid ∙ gather_part s.readings s.scratch (1024 * c) 1024 js below (omega arith) in
+      let goes : compacted L (length (map (place_in c) js)) ≡ true = grind (arith, nat_tests) in
       record {
         kept = h.kept;
         paid = grind (arith, nat_tests);
-        wrote = f ∙ ap (λ zs. take pos s.output ++ zs) (e ∙ ap (splice (drop pos s.output) 0) values) ∙ splice_part s.output pos (gather s.readings (at offset is));
+        wrote = f ∙ ap (λ zs. take pos s.output ++ zs) (e ∙ ap (splice (drop pos s.output) 0) values) ∙ splice_part s.output pos (gather s.readings (map (place_in c) js));
         laid = laid ∙ ap (λ b. overlaid s.readings s.scratch (when b c)) (sym goes);
       }
+
+-- ascending indices of one chunk at an offset
+pub inside : {T : Type 0} (L : ℕ) (s : Store T) (pos c offset : ℕ) (is : List ℕ) → Servable (offered L s pos) c (at offset is) → Whole s.readings → AllByRecursion (Within offset (c * 1024) 1024) is
+inside L s pos c offset is ok whole =
+    let chunk = ok.chunk in
+    let few = whole.1 in
+    All-weaker (λ i. (1024 * c ≤ moved offset i) × (moved offset i < 1024 * c + 1024)) (Within offset (c * 1024) 1024) (λ i l. record { fits = omega arith; above = omega arith; below = omega arith }) is
+    (all_of_map (λ p. (1024 * c ≤ p) × (p < 1024 * c + 1024)) (moved offset) is (rising_all (1024 * c) (1024 * c + 1024) (at offset is) ok.rising))
+
+pub back : (c offset : ℕ) (is : List ℕ) → AllByRecursion (Within offset (c * 1024) 1024) is → map (place_in c) (map (shifted offset (c * 1024)) is) ≡ at offset is
+back c offset is h = map_map (place_in c) (shifted offset (c * 1024)) is ∙ map_same (λ i. place_in c (shifted offset (c * 1024) i)) (moved offset) is (All-weaker (Within offset (c * 1024) 1024) (λ i. place_in c (shifted offset (c * 1024) i) ≡ moved offset i) (λ i h. let above = h.above in omega arith) is h)
+
+-- places of one chunk, from their indices there
+pub back_plain : (t : Terms) (c : ℕ) (ys : List ℕ) → Servable t c ys → map (place_in c) (map (shifted 0 (c * 1024)) ys) ≡ ys
+back_plain t c ys ok =
+    map_map (place_in c) (shifted 0 (c * 1024)) ys
+    ∙ map_same (λ p. place_in c (shifted 0 (c * 1024) p)) (moved 0) ys (All-weaker (λ p. (1024 * c ≤ p) × (p < 1024 * c + 1024)) (λ p. place_in c (shifted 0 (c * 1024) p) ≡ moved 0 p) (λ p l. omega arith) ys (rising_all (1024 * c) (1024 * c + 1024) ys ok.rising))
+    ∙ at_zero ys
 
 -- what was written to the first places of a buffer
 pub picked_is : (out before vs : List ℕ) (n : ℕ) → out ≡ splice before 0 vs → length vs ≡ n → take (n - 0) out ≡ vs
 picked_is out before vs n e h = let all : length vs ≡ n - 0 = omega arith in ap (take (n - 0)) e ∙ take_at vs (drop (0 + length vs) before) (n - 0) all
-
--- a filter with places to serve has not written past its output
-pub written_within : {T : Type 0} (L : ℕ) (s : Store T) (pos c : ℕ) (ys : List ℕ) → Servable (offered L s pos) c ys → pos + length ys ≤ length s.output
-written_within L s pos c ys ok = let a = ok.some in let b = ok.fits in omega arith
 
 -- how far a walk over places has served them: s is where it began, and t where it is
 pub record Serves {T : Type 0} (L : ℕ) (s t : Store T) (pos : ℕ) (ps : List ℕ) (i : ℕ) : Type 0 where
@@ -245,15 +255,15 @@ module _ {T : Type 0} (L : ℕ) (s t : Store T) (pos : ℕ) (ps : List ℕ) (i j
   room_left = let fits = ok.fits in let w = k.within in let m = k.more in omega arith
 
   -- what the store that is reached offers
-  record Offers : Type 0 where
+  record Reached : Type 0 where
     pub readings : t.readings ≡ s.readings
     pub left : t.allowance ≡ s.allowance - fee_of L (chunks_of s.readings) (take i ps)
     pub output : length t.output ≡ length s.output
     pub scratch : length t.scratch ≡ length s.scratch
 
-  offers : Offers
+  reached : Reached
   unfolding serving
-  offers =
+  reached =
       let w = k.within in
       let m = k.more in
       let n = length-take-le i ps (omega arith) in
@@ -269,7 +279,7 @@ module _ {T : Type 0} (L : ℕ) (s t : Store T) (pos : ℕ) (ps : List ℕ) (i j
 
   pub cut_servable : Servable (offered L t (pos + i)) c (between i j ps)
   cut_servable =
-      let o = offers in
+      let o = reached in
       let w = k.within in
       let m = k.more in
       let n = length-between ps i j k.within in
@@ -312,8 +322,3 @@ serves_still L s t u pos ps ys i n h size none e =
 
 pub serves_all : {T : Type 0} (L : ℕ) (s t : Store T) (pos : ℕ) (ps : List ℕ) (i : ℕ) → Serves L s t pos ps i → length ps ≤ i → t ≡ serving L s pos ps
 serves_all L s t pos ps i h l = h.state ∙ ap (serving L s pos) (take_all i ps l)
-
--- places that are not moved
-pub at_zero : (ys : List ℕ) → at 0 ys ≡ ys
-at_zero [] = refl
-at_zero (y ∷ ys) = let e : 0 + y ≡ y = omega arith in ap₂ (λ x xs. x ∷ xs) e (at_zero ys)

@@ -1,5 +1,5 @@
 -- The places of a bitmap, cut where a chunk ends, and the words that were loaded from it.
-use Rattle.std.proofs.Common.{◌≡◌, ℕ, ◌+◌, ◌-◌, ◌*◌, ◌/◌, ◌%◌, ◌<◌, ◌≤◌, min, Bool, false, List, ◌++◌, map, length, get_or, filter, sym, ap, ◌∙◌, subst, ap₂, ⊎_elim, arith}
+use Rattle.std.proofs.Common.{◌≡◌, ℕ, ◌+◌, ◌-◌, ◌*◌, ◌/◌, ◌%◌, ◌<◌, ◌≤◌, min, Bool, false, List, ◌++◌, map, length, get_or, filter, sym, ap, ◌∙◌, subst, ap₂, ⊎_elim, arith, Bor}
 use Rattle.std.specs.List.{range_with_len, between, AllByRecursion}
 use Rattle.std.proofs.ByRecursion.{all_kept_by, All-map, All-weaker}
 use Rattle.std.proofs.lemmas.List.{get_or_past, length-map, map-append}
@@ -11,8 +11,10 @@ use Rattle.selection.proofs.Bits.{bit_above, bit_from, bit_from_past}
 use Rattle.selection.proofs.Filtered.{kept_map, map_map, map_same}
 use Rattle.selection.proofs.Rising.{rising_all, rising_counting, rising_kept}
 use Rattle.kernels.specs.Moved.{shifted}
-use Rattle.kernels.specs.Masks.{Covers, mask_positions, words_bit}
-use Rattle.kernels.proofs.Masked.{positions_inside, positions_same}
+use Rattle.kernels.specs.declared.slice.MaskBits.TheVariants.{Words}
+use Rattle.kernels.specs.Masks.{Covers, mask_positions, selected_by, words_bit}
+use Rattle.kernels.proofs.Masked.{positions_inside, positions_same, words_selected}
+use Rattle.source.specs.Fetched.{place_in}
 use Rattle.settle.specs.Pushes.{moved}
 use Rattle.settle.specs.Bounds.{boundary, kept_between_places}
 use Rattle.settle.proofs.Settled.{at}
@@ -91,6 +93,21 @@ kept_from q offset a b base e =
     let same : map (moved base) (filter (λ j. q (a + j)) (range_with_len 0 (b - a))) ≡ map (λ j. moved offset (a + j)) (filter (λ j. q (a + j)) (range_with_len 0 (b - a))) = map_same (moved base) (λ j. moved offset (a + j)) (filter (λ j. q (a + j)) (range_with_len 0 (b - a))) (all_kept_by (λ j. q (a + j)) (λ j. moved base j ≡ moved offset (a + j)) (range_with_len 0 (b - a)) (All-weaker (λ j. (0 ≤ j) × (j < b - a)) (λ j. moved base j ≡ moved offset (a + j)) (λ j _. omega arith) (range_with_len 0 (b - a)) (rising_all 0 (b - a) (range_with_len 0 (b - a)) (rising_counting 0 (b - a) (b - a) (omega arith))))) in
     same ∙ sym (map_map (moved offset) (λ j. a + j) (filter (λ j. q (a + j)) (range_with_len 0 (b - a)))) ∙ ap (at offset) (sym (kept_map q (λ j. a + j) (range_with_len 0 (b - a))) ∙ ap (filter q) (sym (fill_by_all (λ j. a + j) (range_with_len a (b - a)) (b - a) 0 (length-range_with_len a (b - a)) (λ k h. get_or-range_with_len a (b - a) k 0 h))))
 
--- the places of words in a chunk, by their index there
-pub words_back : (ws : List ℕ) (n chunk up : ℕ) → map (shifted up 0) (mask_positions ws n) ≡ map (shifted 0 (chunk * 1024)) (map (moved (chunk * 1024 + up)) (mask_positions ws n))
-words_back ws n chunk up = map_same (shifted up 0) (λ i. shifted 0 (chunk * 1024) (moved (chunk * 1024 + up) i)) (mask_positions ws n) (All-weaker (λ i. i < n) (λ i. shifted up 0 i ≡ shifted 0 (chunk * 1024) (moved (chunk * 1024 + up) i)) (λ i _. omega arith) (mask_positions ws n) (positions_inside ws n)) ∙ sym (map_map (shifted 0 (chunk * 1024)) (moved (chunk * 1024 + up)) (mask_positions ws n))
+-- the places of words in a chunk, from their indices there
+pub words_back : (ws : List ℕ) (n chunk up : ℕ) → map (place_in chunk) (map (shifted up 0) (mask_positions ws n)) ≡ map (moved (chunk * 1024 + up)) (mask_positions ws n)
+words_back ws n chunk up = map_map (place_in chunk) (shifted up 0) (mask_positions ws n) ∙ map_same (λ i. place_in chunk (shifted up 0 i)) (moved (chunk * 1024 + up)) (mask_positions ws n) (All-weaker (λ i. i < n) (λ i. place_in chunk (shifted up 0 i) ≡ moved (chunk * 1024 + up) i) (λ i _. omega arith) (mask_positions ws n) (positions_inside ws n))
+
+-- words that were loaded from a window, as places
+pub loaded_places : (w : Window) (ws : Bor (List ℕ)) (offset a b chunk up : ℕ) → up ≡ a + offset - chunk * 1024 → chunk * 1024 ≤ a + offset → mask_positions ws.now (b - a) ≡ filter (window_from w a) (range_with_len 0 (b - a)) → map (place_in chunk) (map (shifted up 0) (selected_by (Words ws (b - a)))) ≡ at offset (kept_between_places (window_bit w) a b)
+loaded_places w ws offset a b chunk up e low picks =
+    ap (λ ps. map (place_in chunk) (map (shifted up 0) ps)) (words_selected ws (b - a))
+    ∙ words_back ws.now (b - a) chunk up
+    ∙ ap (map (moved (chunk * 1024 + up))) picks
+    ∙ kept_from (window_bit w) offset a b (chunk * 1024 + up) (omega arith)
+
+pub loaded_count : (w : Window) (ws : List ℕ) (a b n : ℕ) → mask_positions ws (b - a) ≡ filter (window_from w a) (range_with_len 0 (b - a)) → n ≡ length (mask_positions ws (b - a)) → n ≡ length (kept_between_places (window_bit w) a b)
+loaded_count w ws a b n picks count =
+    let same = ap length (kept_from (window_bit w) 0 a b a (omega arith)) in
+    let left = length-map (filter (window_from w a) (range_with_len 0 (b - a))) (moved a) in
+    let right = length-map (kept_between_places (window_bit w) a b) (moved 0) in
+    count ∙ ap length picks ∙ omega arith

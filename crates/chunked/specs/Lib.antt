@@ -1,2 +1,3 @@
 pub mod Served
 pub mod Spans
+pub mod Deliveries

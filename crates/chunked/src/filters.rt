@@ -6,10 +6,10 @@ ghost use Rattle.source.specs.Fetched.{chunks_of};
 ghost use Rattle.settle.specs.Pushes.{answer};
 ghost use Rattle.chunked.specs.Served.{next, state_of, terms_of};
 
-use super::serve::{serve_bitmap, serve_indices, serve_runs};
+use super::serve::Delivery;
 use kernels::sparse_limit;
 use selection::{Refusal, Run, Selection, Window};
-use settle::{Push, Receipt, Terms, settle_bitmap, settle_indices, settle_runs};
+use settle::{Push, Receipt, Terms, settle_push};
 use source::ChunkDecoder;
 
 /// Picks readings from a source that it owns, and keeps two totals.
@@ -36,16 +36,14 @@ impl<D: ChunkDecoder> ChunkedFilter<D> {
     pub fn written(&self) -> u64
         ensures { result ≡ self.now.written }
     {
-        let written = self.written;
-        written
+        self.written
     }
 
     /// What was paid, modulo 2^64.
     pub fn fees(&self) -> u64
         ensures { result ≡ self.now.fees }
     {
-        let fees = self.fees;
-        fees
+        self.fees
     }
 
     /// How much of the source's allowance is left.
@@ -93,13 +91,8 @@ impl<D: ChunkDecoder> ChunkedFilter<D> {
         ensures value { result ≡ answer (terms_of (limit_at_width D.Item.Element.WIDTH) (state_of D.ChunkDecoder.readings D.ChunkDecoder.allowance self.old output.old scratch.old)) (record { offset = offset; selection = Indices indices.entry len }) }
         ensures after { state_of D.ChunkDecoder.readings D.ChunkDecoder.allowance self.new output.new scratch.new ≡ next (limit_at_width D.Item.Element.WIDTH) (state_of D.ChunkDecoder.readings D.ChunkDecoder.allowance self.old output.old scratch.old) (record { offset = offset; selection = Indices indices.entry len }) }
     {
-        let terms = self.terms(output.len(), scratch.len());
-        let receipt = settle_indices(&terms, offset, indices, len)?;
-        let at = self.written as usize;
-        serve_indices(&mut self.source, offset, indices, output, at, scratch);
-        self.written = self.written.wrapping_add(receipt.count);
-        self.fees = self.fees.wrapping_add(receipt.fee);
-        Ok(receipt)
+        let selection = Selection::Indices { indices, len };
+        self.push(Push { offset, selection }, output, scratch)
     }
 
     /// Writes the readings of ascending runs, each moved by the offset, to the next places of
@@ -115,13 +108,8 @@ impl<D: ChunkDecoder> ChunkedFilter<D> {
         ensures value { result ≡ answer (terms_of (limit_at_width D.Item.Element.WIDTH) (state_of D.ChunkDecoder.readings D.ChunkDecoder.allowance self.old output.old scratch.old)) (record { offset = offset; selection = Runs runs.entry len }) }
         ensures after { state_of D.ChunkDecoder.readings D.ChunkDecoder.allowance self.new output.new scratch.new ≡ next (limit_at_width D.Item.Element.WIDTH) (state_of D.ChunkDecoder.readings D.ChunkDecoder.allowance self.old output.old scratch.old) (record { offset = offset; selection = Runs runs.entry len }) }
     {
-        let terms = self.terms(output.len(), scratch.len());
-        let receipt = settle_runs(&terms, offset, runs, len)?;
-        let at = self.written as usize;
-        serve_runs(&mut self.source, offset, runs, output, at, scratch);
-        self.written = self.written.wrapping_add(receipt.count);
-        self.fees = self.fees.wrapping_add(receipt.fee);
-        Ok(receipt)
+        let selection = Selection::Runs { runs, len };
+        self.push(Push { offset, selection }, output, scratch)
     }
 
     /// Writes the readings at the positions of a bitmap, each moved by the offset, to the next places of
@@ -136,13 +124,8 @@ impl<D: ChunkDecoder> ChunkedFilter<D> {
         ensures value { result ≡ answer (terms_of (limit_at_width D.Item.Element.WIDTH) (state_of D.ChunkDecoder.readings D.ChunkDecoder.allowance self.old output.old scratch.old)) (record { offset = offset; selection = Bitmap window.entry }) }
         ensures after { state_of D.ChunkDecoder.readings D.ChunkDecoder.allowance self.new output.new scratch.new ≡ next (limit_at_width D.Item.Element.WIDTH) (state_of D.ChunkDecoder.readings D.ChunkDecoder.allowance self.old output.old scratch.old) (record { offset = offset; selection = Bitmap window.entry }) }
     {
-        let terms = self.terms(output.len(), scratch.len());
-        let receipt = settle_bitmap(&terms, offset, window)?;
-        let at = self.written as usize;
-        serve_bitmap(&mut self.source, offset, window, output, at, scratch);
-        self.written = self.written.wrapping_add(receipt.count);
-        self.fees = self.fees.wrapping_add(receipt.fee);
-        Ok(receipt)
+        let selection = Selection::Bitmap(window);
+        self.push(Push { offset, selection }, output, scratch)
     }
 
     /// Makes a push in whichever form it comes.
@@ -155,13 +138,17 @@ impl<D: ChunkDecoder> ChunkedFilter<D> {
         ensures value { result ≡ answer (terms_of (limit_at_width D.Item.Element.WIDTH) (state_of D.ChunkDecoder.readings D.ChunkDecoder.allowance self.old output.old scratch.old)) push.entry }
         ensures after { state_of D.ChunkDecoder.readings D.ChunkDecoder.allowance self.new output.new scratch.new ≡ next (limit_at_width D.Item.Element.WIDTH) (state_of D.ChunkDecoder.readings D.ChunkDecoder.allowance self.old output.old scratch.old) push.entry }
     {
-        let offset = push.offset;
-        match push.selection {
-            Selection::Bitmap(window) => self.push_bitmap(offset, window, output, scratch),
-            Selection::Indices { indices, len } => {
-                self.push_mask_indices(offset, indices, len, output, scratch)
-            }
-            Selection::Runs { runs, len } => self.push_slices(offset, runs, len, output, scratch),
-        }
+        let terms = self.terms(output.len(), scratch.len());
+        let receipt = settle_push(&terms, push)?;
+        let mut delivery = Delivery {
+            source: &mut self.source,
+            output,
+            at: self.written as usize,
+            scratch,
+        };
+        delivery.serve(push);
+        self.written = self.written.wrapping_add(receipt.count);
+        self.fees = self.fees.wrapping_add(receipt.fee);
+        Ok(receipt)
     }
 }

@@ -2,6 +2,7 @@
 #![tactic(auto)]
 
 mod filters;
+mod pieces;
 mod serve;
 
 pub use filters::ChunkedFilter;

@@ -5,45 +5,55 @@ use Rattle.std.proofs.lemmas.List.{map-append, take_more, flat_map_more}
 use Rattle.std.proofs.lemmas.Bool.{ltb-false}
 use Rattle.selection.specs.declared.refusals.Refusal.{Refusal}
 use Rattle.selection.specs.declared.refusals.Refusal.TheVariants.{Offset, Scratch}
+use Rattle.selection.specs.declared.selections.Selection.{Selection}
 use Rattle.selection.specs.declared.selections.Selection.TheVariants.{Bitmap, Indices, Runs}
 use Rattle.selection.specs.declared.windows.Window.{Window}
 use Rattle.selection.specs.declared.selections.Run.{Run}
 use Rattle.selection.specs.Refusals.{answered, first, first_of, when}
 use Rattle.selection.specs.Selected.{Rising, RunsRise, indices_fault, long, range, runs_fault, selection_fault, positions, window_fault, window_positions, no_run}
+use Rattle.selection.specs.Items.{listed_fault, listed_positions}
 use Rattle.selection.proofs.Objections.{none_each, when_none}
-use Rattle.selection.proofs.Listed.{index_rises, indices_pick, runs_pick_formed, runs_rise, runs_wider}
+use Rattle.selection.proofs.Listed.{index_rises, indices_pick, runs_pick, runs_pick_formed, runs_rise, runs_wider}
 use Rattle.selection.proofs.Rising.{rising_within}
 use Rattle.settle.specs.declared.settle.Push.{Push}
 use Rattle.settle.specs.declared.settle.Terms.{Terms}
-use Rattle.settle.specs.Pushes.{answer, declined, fee, grant_fault, misformed, moved, past_source, places, receipt, room_fault}
+use Rattle.settle.specs.Pushes.{answer, answer_to, declined, fee, grant_fault, misformed, moved, past_source, places, receipt, room_fault}
 
 -- the places of some indices at an offset
 abbrev pub at : ℕ → List ℕ → List ℕ
 at offset is = map (moved offset) is
 
--- the answer to a push, by the first of its steps that objects
-module _ (t : Terms) (p : Push) where
-  pub by_selection : (e : Refusal) → selection_fault p.selection ≡ Some e → Err e ≡ answer t p
-  unfolding answer misformed
+-- the answer to positions at an offset, by the first of its steps that objects
+module _ (t : Terms) (offset : ℕ) (fault : Option Refusal) (is : List ℕ) where
+  pub by_selection : (e : Refusal) → fault ≡ Some e → Err e ≡ answer_to t offset fault is
+  unfolding answer_to
   by_selection e h = rw h refl
 
-  module _ (formed : selection_fault p.selection ≡ None) where
-    pub by_room : (e : Refusal) → room_fault t.scratch p.offset ≡ Some e → Err e ≡ answer t p
-    unfolding answer misformed
+  module _ (formed : fault ≡ None) where
+    pub by_room : (e : Refusal) → room_fault t.scratch offset ≡ Some e → Err e ≡ answer_to t offset fault is
+    unfolding answer_to
     by_room e h = rw (formed, h) refl
 
-    module _ (roomy : room_fault t.scratch p.offset ≡ None) where
-      pub by_past : (e : Refusal) → first (past_source t.chunks) (places p) ≡ Some e → Err e ≡ answer t p
-      unfolding answer misformed declined
+    module _ (roomy : room_fault t.scratch offset ≡ None) where
+      pub by_past : (e : Refusal) → first (past_source t.chunks) (at offset is) ≡ Some e → Err e ≡ answer_to t offset fault is
+      unfolding answer_to declined
       by_past e h = rw (formed, roomy, h) refl
 
-      pub by_grant : (count cost : ℕ) → first (past_source t.chunks) (places p) ≡ None → count ≡ length (places p) → cost ≡ fee t (places p) → answered (grant_fault t count cost) (record { count = count; fee = cost }) ≡ answer t p
-      unfolding answer misformed declined
-      by_grant count cost h n f = rw (n, f, formed, roomy, h) (last (grant_fault t (length (places p)) (fee t (places p))))
+      pub by_grant : (count cost : ℕ) → first (past_source t.chunks) (at offset is) ≡ None → count ≡ length (at offset is) → cost ≡ fee t (at offset is) → answered (grant_fault t count cost) (record { count = count; fee = cost }) ≡ answer_to t offset fault is
+      unfolding answer_to declined
+      by_grant count cost h n f = rw (n, f, formed, roomy, h) (last (grant_fault t (length (at offset is)) (fee t (at offset is))))
         where
-          last : (o : Option Refusal) → answered o (receipt t (places p)) ≡ answered (first_of (first_of (o ∷ []) ∷ [])) (receipt t (places p))
+          last : (o : Option Refusal) → answered o (receipt t (at offset is)) ≡ answered (first_of (first_of (o ∷ []) ∷ [])) (receipt t (at offset is))
           last None = refl
           last (Some e) = refl
+
+-- the answer to a push, from its selection
+pub answer_is : (t : Terms) (p : Push) → answer t p ≡ answer_to t p.offset (selection_fault p.selection) (positions p.selection)
+unfolding answer answer_to misformed places
+answer_is t p = refl
+
+pub answer_by : (t : Terms) (p : Push) (s : Selection) (fault : Option Refusal) (is : List ℕ) → p.selection ≡ s → fault ≡ selection_fault s → is ≡ positions s → answer_to t p.offset fault is ≡ answer t p
+answer_by t p s fault is form e f = ap₂ (answer_to t p.offset) (e ∙ ap selection_fault (sym form)) (f ∙ ap positions (sym form)) ∙ sym (answer_is t p)
 
 pub not_long : (n : ℕ) → long n ≡ None → n ≤ 16777216
 not_long n e = ltb-false 16777216 n (when_none _ _ e)
@@ -60,27 +70,13 @@ module _ (n : ℕ) (o : Option Refusal) where
       or_none None = refl
       or_none (Some e) = refl
 
-module _ (xs : Bor (List ℕ)) (n : ℕ) where
-  pub indices_long : (e : Refusal) → long n ≡ Some e → selection_fault (Indices xs n) ≡ Some e
-  unfolding selection_fault
-  indices_long e l = too_long n (indices_fault n xs.now) e l
+-- a list of runs
+module _ (n : ℕ) (rs : List Run) where
+  pub listed_long : (e : Refusal) → long n ≡ Some e → listed_fault n rs ≡ Some e
+  listed_long e l = too_long n (runs_fault n rs) e l
 
-  pub indices_fault_is : long n ≡ None → selection_fault (Indices xs n) ≡ indices_fault n xs.now
-  unfolding selection_fault
-  indices_fault_is l = not_too_long n (indices_fault n xs.now) l
-
-module _ (rs : Bor (List Run)) (n : ℕ) where
-  pub runs_long : (e : Refusal) → long n ≡ Some e → selection_fault (Runs rs n) ≡ Some e
-  unfolding selection_fault
-  runs_long e l = too_long n (runs_fault n rs.now) e l
-
-  pub runs_fault_is : long n ≡ None → selection_fault (Runs rs n) ≡ runs_fault n rs.now
-  unfolding selection_fault
-  runs_fault_is l = not_too_long n (runs_fault n rs.now) l
-
--- one index more
-pub at_more : (offset : ℕ) (xs : List ℕ) (k : ℕ) → k < length xs → at offset (take (k + 1) xs) ≡ at offset (take k xs) ++ ((offset + get_or xs k 0) ∷ [])
-at_more offset xs k l = ap (at offset) (take_more xs k 0 l) ∙ map-append (moved offset) (take k xs) (get_or xs k 0 ∷ [])
+  pub listed_fault_is : long n ≡ None → listed_fault n rs ≡ runs_fault n rs
+  listed_fault_is l = not_too_long n (runs_fault n rs) l
 
 -- a well formed index list
 module _ (offset : ℕ) (xs : Bor (List ℕ)) (n : ℕ) (formed : selection_fault (Indices xs n) ≡ None) where
@@ -147,3 +143,7 @@ run_places_more up rs k l =
     ∙ ap (at up) (sym (flat_map_more range [] (take k rs) r))
     ∙ map-append (moved up) (flat_map range (take k rs)) (range r)
     ∙ ap (λ xs. run_places up (take k rs) ++ xs) (sym (counting_moved up r.start (r.«end» - r.start)) ∙ ap (range_with_len (r.start + up)) n)
+
+-- the places of sound runs
+pub listed_places : (offset n : ℕ) (rs : List Run) → runs_fault n rs ≡ None → at offset (listed_positions n rs) ≡ run_places offset rs
+listed_places offset n rs formed = ap (at offset) (runs_pick n rs (runs_rise n rs formed))

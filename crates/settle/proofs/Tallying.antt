@@ -3,7 +3,7 @@ use Rattle.std.proofs.Common.{◌≡◌, ℕ, zero, suc, ◌+◌, ◌-◌, ◌*�
 use Rattle.std.specs.List.{range_with_len, AllByRecursion}
 use Rattle.std.proofs.lemmas.List.Elements.{filter-append}
 use Rattle.std.proofs.ByRecursion.{All-append, All-weaker}
-use Rattle.std.proofs.lemmas.List.{append-nil, length-append}
+use Rattle.std.proofs.lemmas.List.{append-nil, append_assoc, length-append}
 use Rattle.std.proofs.lemmas.Bool.{cases_lt, le-leb, leb-false, lt-leb, ne_eqb}
 use Rattle.std.proofs.lemmas.Bool.Decides.{nat_tests}
 use Rattle.selection.specs.declared.refusals.Refusal.{Refusal}
@@ -200,6 +200,9 @@ counting_on a b d h l =
     let n : d - a ≡ (b - a) + (d - b) = omega arith in
     let on : a + (b - a) ≡ b = omega arith in
     ap (range_with_len a) n ∙ counting_split (b - a) (d - b) a ∙ ap (λ x. range_with_len a (b - a) ++ range_with_len x (d - b)) on
+
+pub counting_more : (ps : List ℕ) (a b d : ℕ) → a ≤ b → b ≤ d → ps ++ range_with_len a (d - a) ≡ (ps ++ range_with_len a (b - a)) ++ range_with_len b (d - b)
+counting_more ps a b d h l = ap (λ xs. ps ++ xs) (counting_on a b d h l) ∙ sym (append_assoc ps (range_with_len a (b - a)) (range_with_len b (d - b)))
 
 -- those up to the end of a chunk lie in it
 pub counting_chunk : (a b c : ℕ) → c ≡ a / 1024 → a ≤ b → b ≤ (c + 1) * 1024 → AllByRecursion (λ p. p / 1024 ≡ c) (range_with_len a (b - a))

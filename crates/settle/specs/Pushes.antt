@@ -52,3 +52,7 @@ receipt t ps = record { count = length ps; fee = fee t ps }
 -- what a push answers
 unfoldable pub answer : Terms → Push → Answer
 answer t p = answered (refusal t p) (receipt t (places p))
+
+-- the answer to the positions of a selection at an offset, where this is its fault
+unfoldable pub answer_to : Terms → ℕ → Option Refusal → List ℕ → Answer
+answer_to t offset fault is = answered (first_of (first_of (fault ∷ room_fault t.scratch offset ∷ []) ∷ declined t (map (moved offset) is) ∷ [])) (receipt t (map (moved offset) is))

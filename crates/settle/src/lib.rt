@@ -3,6 +3,4 @@
 
 mod settle;
 
-pub use settle::{
-    Push, Receipt, Terms, chunk_boundary, settle_bitmap, settle_indices, settle_runs,
-};
+pub use settle::{Push, Receipt, Terms, chunk_boundary, settle_push};

@@ -4,12 +4,13 @@ ghost use Rattle.std.specs.List.{range_with_len, AllByRecursion};
 ghost use Rattle.selection.specs.declared.selections.Selection.TheVariants.{Bitmap, Indices, Runs};
 ghost use Rattle.selection.specs.Refusals.{answered, first};
 ghost use Rattle.selection.specs.Selected.{window_positions};
+ghost use Rattle.selection.specs.Items.{listed_fault, listed_positions};
 ghost use Rattle.settle.specs.Prices.{price};
 ghost use Rattle.settle.specs.Bounds.{boundary};
 ghost use Rattle.settle.specs.Tallies.{Tallied};
-ghost use Rattle.settle.specs.Pushes.{answer, fee as fee_under, grant_fault, moved, past_source, receipt, room_fault};
+ghost use Rattle.settle.specs.Pushes.{answer, answer_to, fee as fee_under, grant_fault, moved, past_source, receipt, room_fault};
 
-use selection::{Refusal, Run, Selection, Window, check_index, check_len, check_run};
+use selection::{Item, Refusal, Selection, Window, check_len};
 use source::CHUNK;
 
 /// A selection, and what is added to each of its positions.
@@ -125,7 +126,7 @@ impl Tally {
     /// Takes the places from `from` up to `to`, chunk by chunk.
     fn take_run(&mut self, terms: &Terms, from: u64, to: u64)
         requires ahead { self.old.chunk * 1024 ≤ from }
-        requires order { from ≤ to }
+        requires order { from < to }
         requires bound { to < 2 ^ 63 }
         requires fits { self.old.fee + 1024 * (self.old.count + (to - from)) < 2 ^ 64 }
         ensures tallied { (ps : List ℕ) → Tallied terms.now self.old ps → Tallied terms.now self.new (ps ++ range_with_len from (to - from)) }
@@ -133,12 +134,15 @@ impl Tally {
         ensures weight { self.new.fee + 1024 * self.new.count ≤ self.old.fee + 1024 * (self.old.count + (to - from)) }
     {
         let mut at = from;
-        while at < to {
-            let chunk = at / CHUNK;
-            let end = to.min((chunk + 1) * CHUNK);
+        let mut chunk = from / CHUNK;
+        let mut end = (chunk + 1) * CHUNK;
+        while end < to {
             self.take(terms, chunk, end - at);
             at = end;
+            chunk += 1;
+            end += CHUNK;
         }
+        self.take(terms, chunk, to - at);
     }
 
     /// The fee of all the places, or the first chunk past the source.
@@ -153,41 +157,25 @@ impl Tally {
     }
 }
 
-/// What a push of an index list will answer.
-pub fn settle_indices(
+/// What a push of a list of items, indices or runs, will answer.
+fn settle_items<I: Item>(
     terms: &Terms,
     offset: u64,
-    indices: &[u64],
+    items: &[I],
     len: u64,
 ) -> Result<Receipt, Refusal>
-    ensures { result ≡ answer terms.now (record { offset = offset; selection = Indices indices.entry len }) }
-{
-    check_len(len)?;
-    let up = offset.min(CHUNK);
-    let mut least = 0;
-    let mut tally = Tally::new();
-    for (place, index) in indices.iter().enumerate() {
-        least = check_index(*index, place, least, len)?;
-        tally.take(terms, (*index + up) / CHUNK, 1);
-    }
-    terms.check_room(offset)?;
-    let fee = tally.end(terms)?;
-    terms.grant(indices.len() as u64, fee)
-}
-
-/// What a push of a run list will answer.
-pub fn settle_runs(terms: &Terms, offset: u64, runs: &[Run], len: u64) -> Result<Receipt, Refusal>
-    ensures { result ≡ answer terms.now (record { offset = offset; selection = Runs runs.entry len }) }
+    ensures { let runs = map I.as_run items.now in result ≡ answer_to terms.now offset (listed_fault len runs) (listed_positions len runs) }
 {
     check_len(len)?;
     let up = offset.min(CHUNK);
     let mut least = 0;
     let mut total = 0;
     let mut tally = Tally::new();
-    for (place, run) in runs.iter().enumerate() {
-        least = check_run(*run, place, least, len)?;
-        total += run.end - run.start;
-        tally.take_run(terms, run.start + up, run.end + up);
+    for (place, item) in items.iter().enumerate() {
+        least = item.check(place, least, len)?;
+        let start = item.first();
+        total += least - start;
+        tally.take_run(terms, start + up, least + up);
     }
     terms.check_room(offset)?;
     let fee = tally.end(terms)?;
@@ -225,11 +213,22 @@ fn price_bitmap(terms: &Terms, offset: u64, window: Window<'_>) -> Result<Receip
 }
 
 /// What a push of a bitmap will answer.
-pub fn settle_bitmap(terms: &Terms, offset: u64, window: Window<'_>) -> Result<Receipt, Refusal>
+fn settle_bitmap(terms: &Terms, offset: u64, window: Window<'_>) -> Result<Receipt, Refusal>
     ensures { result ≡ answer terms.now (record { offset = offset; selection = Bitmap window.entry }) }
 {
     window.check()?;
     terms.check_room(offset)?;
     let receipt = price_bitmap(terms, offset, window)?;
     terms.grant(receipt.count, receipt.fee)
+}
+
+/// What a push will answer, in whichever form it comes.
+pub fn settle_push(terms: &Terms, push: Push<'_>) -> Result<Receipt, Refusal>
+    ensures { result ≡ answer terms.now push.entry }
+{
+    match push.selection {
+        Selection::Bitmap(window) => settle_bitmap(terms, push.offset, window),
+        Selection::Indices { indices, len } => settle_items(terms, push.offset, indices, len),
+        Selection::Runs { runs, len } => settle_items(terms, push.offset, runs, len),
+    }
 }
