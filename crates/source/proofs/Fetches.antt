@@ -1,11 +1,11 @@
 -- What a fetch asks and leaves.
-use Rattle.std.proofs.Common.{◌≡◌, ℕ, zero, suc, ◌+◌, ◌-◌, ◌*◌, ◌%◌, ◌<◌, ◌≤◌, List, [], ◌∷◌, ◌++◌, map, length, get_or, take, drop, set, cond, Bool, true, false, Option, option_map, nat_le, slice_get, position, Some, None, Ok, Err, sym, refl, ap, subst, ◌∙◌, ap₂, add_assoc, arith}
+use Rattle.std.proofs.Common.{◌≡◌, ℕ, zero, suc, ◌+◌, ◌-◌, ◌*◌, ◌<◌, ◌≤◌, List, [], ◌∷◌, ◌++◌, map, length, get_or, take, drop, set, cond, Bool, true, false, Option, option_map, nat_le, slice_get, position, Some, None, Ok, Err, sym, refl, ap, subst, ◌∙◌, ap₂, add_assoc, arith}
 use Rattle.std.specs.List.{position_from, range_with_len, AllByRecursion}
 use Rattle.std.proofs.lemmas.List.{append-nil, map_more, take_more_set}
 use Rattle.std.proofs.lemmas.Iterator.Adapters.{position_from-zero}
 use Rattle.std.proofs.lemmas.Option.{get_or_from_slice_get, slice_get-get_or, slice_get_within}
 use Rattle.std.proofs.lemmas.List.FromFn.{get_or-map-range_with_len, get_or-range_with_len, length-map-range_with_len, length-range_with_len}
-use Rattle.std.proofs.ByRecursion.{All-map, All-weaker, All-get_or, All-from_get_or}
+use Rattle.std.proofs.ByRecursion.{All-weaker, All-get_or, All-from_get_or}
 use Rattle.std.proofs.lemmas.Bool.{leb-false, ltb-false, lt-leb, le-ltb}
 use Rattle.std.proofs.lemmas.Bool.Decides.{nat_tests}
 use Rattle.selection.specs.declared.refusals.Refusal.{Refusal}
@@ -132,6 +132,7 @@ index_first is =
     pick : (b : Bool) (a : ℕ) (o : Option ℕ) → or_else (when b (Index a)) (option_map Index o) ≡ option_map Index (cond b (Some a) o)
     pick true a o = refl
     pick false a o = refl
+
     go : (is : List ℕ) (a : ℕ) (f : ℕ → Option Refusal) → ((k : ℕ) → f (a + k) ≡ when (nat_le 1024 (get_or is k 0)) (Index (a + k))) → first f (range_with_len a (length is)) ≡ option_map Index (position_from (λ i. nat_le 1024 i) a is)
     go [] a f h = refl
     go (i ∷ is) a f h =

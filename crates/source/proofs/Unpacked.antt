@@ -1,11 +1,6 @@
 -- Readings that are unpacked one by one.
-use Rattle.std.proofs.Common.{◌≡◌, ℕ, ◌+◌, ◌*◌, ◌/◌, ◌%◌, ◌^◌, ◌<◌, ◌≤◌, min, eqb, ltb, List, [], ◌∷◌, ◌++◌, map, length, get_or, take, set, None, sym, refl, ap, ◌∙◌, ap₂, lt_of_lt_of_le, arith, pow_mono}
-use Rattle.std.specs.List.{range_with_len, AllByRecursion}
-use Rattle.std.proofs.lemmas.List.FromFn.{get_or-map-range_with_len, length-map-range_with_len, map-range_with_len_more}
-use Rattle.std.proofs.lemmas.List.{length-map, length-take-le, map_more, map_push}
+use Rattle.std.proofs.Common.{◌≡◌, ℕ, ◌+◌, ◌*◌, ◌/◌, ◌%◌, ◌^◌, ◌<◌, ◌≤◌, eqb, ltb, List, length, None, ap, ◌∙◌, lt_of_lt_of_le, arith, pow_mono}
 use Rattle.std.proofs.lemmas.Bool.{eq-eqb, le-ltb, ne_eqb, not_from_true, or_from}
-use Rattle.kernels.specs.Moved.{gather, splice, value_at}
-use Rattle.kernels.proofs.Gathered.{splice_more, value_at_is}
 use Rattle.selection.specs.Selected.{bits_from}
 use Rattle.selection.proofs.Objections.{none_when}
 use Rattle.selection.proofs.Fields.{bits_lt}

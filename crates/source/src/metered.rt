@@ -25,12 +25,7 @@ impl<R: Readings> Metered<R> {
     }
 
     /// Refuses a fetch of some indices of a chunk.
-    fn admit_indices(
-        &self,
-        chunk: u64,
-        indices: &[u64],
-        output: &[R::Item],
-    ) -> Result<(), Refusal>
+    fn admit_indices(&self, chunk: u64, indices: &[u64], output: &[R::Item]) -> Result<(), Refusal>
         ensures { result ≡ answered (fetch_fault (holding (R.all self.now.readings) self.now.left output.now) chunk indices.now) tt }
     {
         self.admit_place(chunk)?;
@@ -85,7 +80,8 @@ impl<R: Readings> ChunkDecoder for Metered<R> {
 
     fn decode_chunk(&mut self, chunk: u64, output: &mut [R::Item]) -> Result<(), Refusal> {
         self.admit_chunk(chunk, output)?;
-        self.readings.write_chunk(chunk, &mut output[..CHUNK as usize]);
+        self.readings
+            .write_chunk(chunk, &mut output[..CHUNK as usize]);
         self.left -= CHUNK;
         Ok(())
     }
@@ -97,7 +93,8 @@ impl<R: Readings> ChunkDecoder for Metered<R> {
         output: &mut [R::Item],
     ) -> Result<(), Refusal> {
         self.admit_indices(chunk, indices, output)?;
-        self.readings.write_indices(chunk, indices, &mut output[..indices.len()]);
+        self.readings
+            .write_indices(chunk, indices, &mut output[..indices.len()]);
         self.left -= indices.len() as u64;
         Ok(())
     }

@@ -1,6 +1,6 @@
-use Rattle.std.proofs.Common.{◌≡◌, length, take, sym, ap, ◌∙◌, arith}
+use Rattle.std.proofs.Common.{sym, ◌∙◌, arith}
 use Rattle.std.proofs.lemmas.List.{length-take-le}
-use Rattle.source.specs.Fetched.{holding, whole_chunk}
+use Rattle.source.specs.Fetched.{whole_chunk}
 use Rattle.source.proofs.Fetches.{carried_out, granted, turned_down, whole_length}
 use Rattle.source.proofs.metered.MeteredChunkDecoder.decode_chunk.Goals as goal
 

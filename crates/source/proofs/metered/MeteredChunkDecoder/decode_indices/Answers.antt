@@ -1,7 +1,6 @@
-use Rattle.std.proofs.Common.{◌<◌, ◌≡◌, refl, length, take, sym, ap, ◌∙◌, arith}
+use Rattle.std.proofs.Common.{◌<◌, refl, length, sym, ◌∙◌, arith}
 use Rattle.std.proofs.lemmas.List.{length-take-le}
 use Rattle.std.proofs.lemmas.List.Elements.{All-from_recursion}
-use Rattle.source.specs.Fetched.{holding}
 use Rattle.source.proofs.Fetches.{carried_out, granted, turned_down}
 use Rattle.source.proofs.metered.MeteredChunkDecoder.decode_indices.Goals as goal
 

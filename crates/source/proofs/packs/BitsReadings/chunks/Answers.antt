@@ -1,4 +1,4 @@
-use Rattle.std.proofs.Common.{sym, arith}
+use Rattle.std.proofs.Common.{arith}
 use Rattle.source.specs.Packing.{reading_at}
 use Rattle.source.specs.Parts.{made_length}
 use Rattle.source.proofs.packs.BitsReadings.chunks.Goals as goal

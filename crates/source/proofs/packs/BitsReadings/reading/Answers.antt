@@ -1,4 +1,4 @@
-use Rattle.std.proofs.Common.{◌^◌, ◌*◌, ◌<◌, ◌≤◌, ◌≡◌, Some, ap, sym, ◌∙◌, arith, rules}
+use Rattle.std.proofs.Common.{◌^◌, ◌*◌, ◌<◌, ◌≤◌, Some, ap, sym, ◌∙◌, arith, rules}
 use Rattle.source.specs.Packing.{reading_at}
 use Rattle.source.specs.Parts.{made_length}
 use Rattle.source.proofs.Fetches.{made_get}

@@ -1,4 +1,4 @@
-use Rattle.std.proofs.Common.{sym, arith}
+use Rattle.std.proofs.Common.{arith}
 use Rattle.source.specs.Fetched.{ramp_at, ramped}
 use Rattle.source.specs.Parts.{made_length}
 use Rattle.source.proofs.ramps.StepsReadings.chunks.Goals as goal

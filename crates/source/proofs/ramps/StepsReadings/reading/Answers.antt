@@ -1,4 +1,4 @@
-use Rattle.std.proofs.Common.{arith, rules, ◌*◌, ◌∙◌, ◌≡◌}
+use Rattle.std.proofs.Common.{arith, rules, ◌*◌, ◌∙◌}
 use Rattle.source.specs.Fetched.{ramp_at, ramped}
 use Rattle.source.specs.Parts.{made_length}
 use Rattle.source.proofs.Fetches.{made_get}
