@@ -123,7 +123,7 @@ read_more xs out c is k p y e s l m h =
     ∙ ap₂ (λ zs v. zs ++ v) h (sym (append-nil (value_at xs q) ∙ one))
     ∙ sym (ap (gather xs) (map_more (place_in c) is k 0 l) ∙ gather_append xs (map (place_in c) (take k is)) (q ∷ []))
 
--- an index that no chunk has, by its place
+-- the first index that no chunk has, by its place
 pub index_first : (is : List ℕ) → first (index_fault is) (range_with_len 0 (length is)) ≡ option_map Index (position (λ i. nat_le 1024 i) is)
 index_first is =
     go is 0 (index_fault is) (λ k. let at : 0 + k ≡ k = omega arith in ap (λ n. when (nat_le 1024 (get_or is n 0)) (Index (0 + k))) at)

@@ -66,10 +66,6 @@ table_fault xs = when (not (length xs % 1024 == 0) || nat_lt 16384 (chunks_of xs
 abbrev pub ramp_at : ℕ → ℕ → ℕ → ℕ
 ramp_at start step i = (start + step * i) % 2 ^ 64
 
--- the reading at index i of chunk c
-abbrev pub ramp_place : ℕ → ℕ → ℕ → ℕ → ℕ
-ramp_place start step c i = ramp_at start step (place_in c i)
-
 -- the first n readings of a ramp
 unfoldable pub ramped : ℕ → ℕ → ℕ → List ℕ
 ramped start step n = map (ramp_at start step) (range_with_len 0 n)

@@ -27,7 +27,7 @@ impl<'a> Packed<'a> {
     /// A source of the readings that lie in the bytes, with an allowance.
     pub fn new(bytes: &'a [u8], width: u32, chunks: u64, allowance: u64) -> Result<Self, Refusal>
         ensures made { IfOk result (λ p. (packed_fault bytes.now width chunks ≡ None) × (p.readings.bytes.now ≡ bytes.now) × (p.readings.width ≡ width) × (p.readings.chunks ≡ chunks) × (p.left ≡ allowance)) }
-        ensures readings { IfOk result (λ p. ⟦<Self as ChunkDecoder>⟧.readings p ≡ unpacked bytes.now width chunks) }
+        ensures source { IfOk result (λ p. (⟦<Self as ChunkDecoder>⟧.readings p ≡ unpacked bytes.now width chunks) × (⟦<Self as ChunkDecoder>⟧.allowance p ≡ allowance)) }
         ensures refused { IfErr result (λ e. packed_fault bytes.now width chunks ≡ Some e) }
     {
         if width == 0 || width > MAX_WIDTH || chunks > MAX_CHUNKS {

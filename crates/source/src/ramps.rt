@@ -24,7 +24,7 @@ impl Ramp {
     /// A source of so many chunks, with an allowance.
     pub fn new(start: u64, step: u64, chunks: u64, allowance: u64) -> Result<Self, Refusal>
         ensures made { IfOk result (λ t. (ramp_fault chunks ≡ None) × (t.readings.start ≡ start) × (t.readings.step ≡ step) × (t.readings.chunks ≡ chunks) × (t.left ≡ allowance)) }
-        ensures readings { IfOk result (λ t. ⟦<Self as ChunkDecoder>⟧.readings t ≡ ramped start step (1024 * chunks)) }
+        ensures source { IfOk result (λ t. (⟦<Self as ChunkDecoder>⟧.readings t ≡ ramped start step (1024 * chunks)) × (⟦<Self as ChunkDecoder>⟧.allowance t ≡ allowance)) }
         ensures refused { IfErr result (λ e. ramp_fault chunks ≡ Some e) }
     {
         if chunks > MAX_CHUNKS {

@@ -22,7 +22,7 @@ impl<'a, T: Element> Table<'a, T> {
     /// A source of the slice's elements, with an allowance.
     pub fn new(lent: &'a [T], allowance: u64) -> Result<Self, Refusal>
         ensures made { IfOk result (λ t. (table_fault lent.now ≡ None) × (t.readings.lent.now ≡ lent.now) × (t.left ≡ allowance)) }
-        ensures readings { IfOk result (λ t. ⟦<Self as ChunkDecoder>⟧.readings t ≡ lent.now) }
+        ensures source { IfOk result (λ t. (⟦<Self as ChunkDecoder>⟧.readings t ≡ lent.now) × (⟦<Self as ChunkDecoder>⟧.allowance t ≡ allowance)) }
         ensures refused { IfErr result (λ e. table_fault lent.now ≡ Some e) }
     {
         let len = lent.len() as u64;

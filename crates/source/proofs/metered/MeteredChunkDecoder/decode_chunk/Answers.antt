@@ -17,7 +17,7 @@ pub write_chunk-requires : goal.write_chunk-requires
 write_chunk-requires g c =
     let h = granted _ c.args.chunk whole_chunk c.in_ok-admit_chunk.ensures in
     let size = whole_length in
-    record { there = h.chunk; size = length-take-le 1024 c.args.output.now (omega (arith, h.places)) }
+    record { there = omega (arith, h.chunk); size = length-take-le 1024 c.args.output.now (omega (arith, h.places)) }
 
 pub overflow_sub-self : goal.overflow_sub-self
 overflow_sub-self g c = let h = granted _ c.args.chunk whole_chunk c.in_ok-admit_chunk.ensures in let size = whole_length in omega (arith, h.payable)

@@ -16,7 +16,7 @@ slice_bounds-write_indices-end-2 g c = let h = granted _ c.args.chunk c.args.ind
 pub write_indices-requires : goal.write_indices-requires
 write_indices-requires g c =
     let h = granted _ c.args.chunk c.args.indices.now c.in_ok-admit_indices.ensures in
-    record { there = h.chunk; inside = All-from_recursion (λ i. i < 1024) c.args.indices.now h.indices; size = length-take-le (length c.args.indices.now) c.args.output.now (omega (arith, h.places)) }
+    record { there = omega (arith, h.chunk); inside = All-from_recursion (λ i. i < 1024) c.args.indices.now h.indices; size = length-take-le (length c.args.indices.now) c.args.output.now (omega (arith, h.places)) }
 
 pub overflow_sub-self : goal.overflow_sub-self
 overflow_sub-self g c = let h = granted _ c.args.chunk c.args.indices.now c.in_ok-admit_indices.ensures in omega (arith, h.payable)

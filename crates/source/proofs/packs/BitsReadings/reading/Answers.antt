@@ -15,8 +15,7 @@ overflow_mul-first c =
 
 pub overflow_cast-result : goal.overflow_cast-result
 overflow_cast-result c =
-    let narrow : c.from-bits.result ≤ 32 = omega arith in
-    let fits : c.field_at.result < 2 ^ 32 = reading_lt c.args.self.now.bytes.now _ c.from-bits.result c.field_at.result narrow c.field_at.ensures in
+    let fits : c.field_at.result < 2 ^ 32 = reading_lt c.args.self.now.bytes.now _ _ c.field_at.result (omega arith) c.field_at.ensures in
     search rules
 
 pub returns : goal.returns
