@@ -1,10 +1,8 @@
 -- Readings that are unpacked one by one.
-use Rattle.std.proofs.Common.{◌≡◌, ℕ, ◌+◌, ◌*◌, ◌/◌, ◌%◌, ◌^◌, ◌<◌, ◌≤◌, eqb, ltb, List, length, None, ap, ◌∙◌, lt_of_lt_of_le, arith, pow_mono}
-use Rattle.std.proofs.lemmas.Bool.{eq-eqb, le-ltb, ne_eqb, not_from_true, or_from}
+use Rattle.std.proofs.Common.{◌≡◌, ℕ, ◌+◌, ◌*◌, ◌/◌, ◌%◌, ◌^◌, ◌<◌, ◌≤◌, List, ap, ◌∙◌, lt_of_lt_of_le, arith, pow_mono}
 use Rattle.selection.specs.Selected.{bits_from}
-use Rattle.selection.proofs.Objections.{none_when}
 use Rattle.selection.proofs.Fields.{bits_lt}
-use Rattle.source.specs.Packing.{packed_fault, reading_at}
+use Rattle.source.specs.Packing.{reading_at}
 
 -- the bits that reading i is made of
 pub reading_is : (bs : List ℕ) (w i x : ℕ) → x ≡ bits_from bs (8 * (i * w / 8) + i * w % 8) w → x ≡ reading_at bs w i
@@ -12,7 +10,3 @@ reading_is bs w i x e = let at : 8 * (i * w / 8) + i * w % 8 ≡ i * w = omega a
 
 pub reading_lt : (bs : List ℕ) (s w x : ℕ) → w ≤ 32 → x ≡ bits_from bs s w → x < 2 ^ 32
 reading_lt bs s w x h e = rw e (lt_of_lt_of_le (bits_lt bs s w) (pow_mono {j = 32} h))
-
--- bytes of the right shape
-pub packed_formed : (bs : List ℕ) (w n : ℕ) → (w ≡ 0 → ⊥) → w ≤ 32 → n ≤ 16384 → length bs ≡ 128 * w * n → packed_fault bs w n ≡ None
-packed_formed bs w n some h l e = none_when _ _ (or_from (eqb w 0) _ (ne_eqb w 0 some) (or_from (ltb 32 w) _ (le-ltb 32 w h) (or_from (ltb 16384 n) _ (le-ltb 16384 n l) (not_from_true _ (eq-eqb (length bs) (128 * w * n) e)))))
