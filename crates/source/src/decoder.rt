@@ -1,9 +1,7 @@
 //! Sources of readings, which are fetched in chunks.
-ghost use Rattle.std.specs.Prelude.{◌≡◌, ℕ, List, [], ◌∷◌, length, nat_lt};
-ghost use Rattle.std.specs.List.{range_with_len};
-ghost use Rattle.selection.specs.declared.refusals.Refusal.TheVariants.{Output, Spent};
-ghost use Rattle.selection.specs.Refusals.{answered, first, first_of, when};
-ghost use Rattle.source.specs.Fetched.{Whole, chunks_of, fetch_fault, fetched, holding, index_fault, objections, whole_chunk};
+ghost use Rattle.std.specs.Prelude.{◌≡◌, ℕ, List};
+ghost use Rattle.selection.specs.Refusals.{answered};
+ghost use Rattle.source.specs.Fetched.{Whole, chunks_of, fetch_fault, fetched, holding, whole_chunk};
 
 use kernels::Element;
 use selection::Refusal;
@@ -50,58 +48,4 @@ pub trait ChunkDecoder {
     ) -> Result<(), Refusal>
         ensures value { result ≡ answered (fetch_fault (holding (readings self.old) (allowance self.old) output.old) chunk indices.now) tt }
         ensures after { holding (readings self.new) (allowance self.new) output.new ≡ fetched (holding (readings self.old) (allowance self.old) output.old) chunk indices.now };
-}
-
-/// Refuses a fetch of some indices of a chunk.
-pub(crate) fn admit_indices(
-    chunks: u64,
-    left: u64,
-    chunk: u64,
-    indices: &[u64],
-    room: usize,
-) -> Result<(), Refusal>
-    ensures { result ≡ answered (first_of (objections chunks left room chunk indices.now)) tt }
-{
-    if chunk >= chunks {
-        return Err(Refusal::Beyond { place: chunk });
-    }
-    check_in_chunk(indices)?;
-    admit_count(left, indices.len(), room)
-}
-
-/// Refuses a fetch of a whole chunk.
-pub(crate) fn admit_chunk(chunks: u64, left: u64, chunk: u64, room: usize) -> Result<(), Refusal>
-    ensures { result ≡ answered (first_of (objections chunks left room chunk whole_chunk)) tt }
-{
-    if chunk >= chunks {
-        return Err(Refusal::Beyond { place: chunk });
-    }
-    admit_count(left, CHUNK as usize, room)
-}
-
-/// Refuses so many readings where there is too little room or too little left.
-fn admit_count(left: u64, n: usize, room: usize) -> Result<(), Refusal>
-    ensures { result ≡ answered (first_of (when (nat_lt room n) Output ∷ when (nat_lt left n) (Spent n) ∷ [])) tt }
-{
-    if room < n {
-        return Err(Refusal::Output);
-    }
-    if left < n as u64 {
-        return Err(Refusal::Spent { place: n as u64 });
-    }
-    Ok(())
-}
-
-/// Refuses the first index that no chunk has.
-fn check_in_chunk(indices: &[u64]) -> Result<(), Refusal>
-    ensures { result ≡ answered (first (index_fault indices.now) (range_with_len 0 (length indices.now))) tt }
-{
-    for (place, index) in indices.iter().enumerate() {
-        if *index >= CHUNK {
-            return Err(Refusal::Index {
-                place: place as u64,
-            });
-        }
-    }
-    Ok(())
 }

@@ -2,8 +2,10 @@
 #![tactic(auto)]
 
 mod decoder;
+mod metered;
 mod packs;
 mod ramps;
+mod readings;
 mod tables;
 
 pub use decoder::{CHUNK, ChunkDecoder};
