@@ -1,66 +1,22 @@
 //! Picks the readings around a gap in a door log, shows what a push refuses, and makes one pick in
 //! three forms over two kinds of source.
-//!
-//! The log has a reading for each second: the door signal of a lift. A cable was pulled for a
-//! while, so the signal drops out, and comes back when the cable is in place again.
 #![tactic(auto)]
 
 use anyhow::anyhow;
 use chunked::{ChunkedFilter, Push, Receipt};
+use doors::{AROUND, Door, SECONDS, STRETCHES, Summary, door_log, reading};
 use kernels::Event;
 use runs::run_both;
 use selection::{Refusal, Run, Selection, Window};
 use source::{ChunkDecoder, Ramp, Table};
 use std::alloc::{AllocError, Global};
 
-/// The seconds of the log: three chunks.
-const SECONDS: u64 = 3072;
-
-/// The cable is out from this second on ..
-const PULLED: u64 = 1500;
-
-/// .. and in place again from this one on.
-const BACK: u64 = 1540;
-
-/// The readings around the gap that are picked.
-const AROUND: [u64; 10] = [1480, 1490, 1498, 1499, 1500, 1520, 1539, 1540, 1541, 1560];
-
-/// The door signal is there.
-const SIGNAL: u32 = 1;
-
-/// It is not.
-const NO_SIGNAL: u32 = 0;
-
-fn reading(second: u64) -> Event {
-    let code = if second >= PULLED && second < BACK {
-        NO_SIGNAL
-    } else {
-        SIGNAL
-    };
-    Event {
-        time: second,
-        lift: 7,
-        code,
-    }
-}
-
-fn door_log(heap: Global) -> Result<Vec<Event>, AllocError> {
-    let mut log = Vec::new(heap);
-    for second in 0..SECONDS {
-        log.push(reading(second))?;
-    }
-    Ok(log)
-}
-
 fn show_reading(rt: &HostRuntime, event: &Event) -> anyhow::Result<()> {
-    let time = event.time;
-    let lift = event.lift;
-    let door = if event.code == NO_SIGNAL {
-        "no signal"
-    } else {
-        "signal"
-    };
-    println!(rt; "  second {time}, lift {lift}: {door}")?;
+    print!(rt; "  second {}, lift {}: ", event.time, event.lift)?;
+    match Door::try_from(event.code) {
+        Ok(door) => println!(rt; "{door}")?,
+        Err(code) => println!(rt; "{code}")?,
+    }
     Ok(())
 }
 
@@ -71,16 +27,8 @@ fn show_answer(
     left: u64,
 ) -> anyhow::Result<()> {
     match answer {
-        Ok(receipt) => {
-            let count = receipt.count;
-            let fee = receipt.fee;
-            println!(rt; "{what}: ok, {count} readings for {fee}, {left} left")?;
-        }
-        Err(refusal) => {
-            let number = refusal.number();
-            let place = refusal.place();
-            println!(rt; "{what}: no, number {number}, place {place}, {left} left")?;
-        }
+        Ok(receipt) => println!(rt; "{what}: ok, {receipt}, {left} left")?,
+        Err(refusal) => println!(rt; "{what}: no, {refusal}, {left} left")?,
     }
     Ok(())
 }
@@ -102,27 +50,7 @@ fn show_gap(
 
 /// The seconds from `start` up to and without `end`.
 fn stretch(heap: Global, start: u64, end: u64) -> Result<Vec<u64>, AllocError> {
-    let mut seconds = Vec::new(heap);
-    for second in start..end {
-        seconds.push(second)?;
-    }
-    Ok(seconds)
-}
-
-/// What was picked, in one line.
-fn show_part(rt: &HostRuntime, part: &[Event]) -> anyhow::Result<()> {
-    let mut silent: usize = 0;
-    for event in part {
-        if event.code == NO_SIGNAL {
-            silent = silent.saturating_add(1);
-        }
-    }
-    if let (Some(first), Some(last)) = (part.first(), part.last()) {
-        let from = first.time;
-        let to = last.time;
-        println!(rt; "  second {from} to second {to}, {silent} without a signal")?;
-    }
-    Ok(())
+    (start..end).collect(heap)
 }
 
 /// A pick of a whole stretch, which is fetched by whole chunks.
@@ -138,8 +66,8 @@ fn show_stretch(
     let answer = filter.push_mask_indices(0, seconds, SECONDS, output, scratch);
     let after = filter.written() as usize;
     show_answer(rt, what, answer, filter.left())?;
-    if before <= after && after <= output.len() {
-        show_part(rt, &output[before..after])?;
+    if let Some(summary) = output.get(before..after).and_then(Summary::of) {
+        println!(rt; "  {summary}")?;
     }
     Ok(())
 }
@@ -169,19 +97,6 @@ fn show_refusals(
     show_answer(rt, "the allowance is spent", answer, filter.left())
 }
 
-/// What is picked in three forms: ten seconds across the edge of a chunk, and two hundred around
-/// the gap.
-const STRETCHES: [Run; 2] = [
-    Run {
-        start: 1020,
-        end: 1030,
-    },
-    Run {
-        start: 1450,
-        end: 1650,
-    },
-];
-
 /// Where the bitmap starts in its first byte.
 const FIRST_BIT: u64 = 3;
 
@@ -189,52 +104,27 @@ const FIRST_BIT: u64 = 3;
 const ALLOWANCE: u64 = 4000;
 
 fn is_picked(second: u64) -> bool {
-    let mut picked = false;
-    for run in &STRETCHES {
-        picked = picked || (run.start <= second && second < run.end);
-    }
-    picked
+    STRETCHES
+        .iter()
+        .any(|run| run.start <= second && second < run.end)
 }
 
 /// The picked seconds, as an index list.
 fn picked_seconds(heap: Global) -> Result<Vec<u64>, AllocError> {
-    let mut seconds = Vec::new(heap);
-    for second in 0..SECONDS {
-        if is_picked(second) {
-            seconds.push(second)?;
-        }
-    }
-    Ok(seconds)
+    (0..SECONDS).filter(|second| is_picked(*second)).collect(heap)
 }
 
 /// Eight bits of the bitmap, from one of them on.
 fn picked_byte(bit: u64) -> u8 {
-    let mut byte = 0;
-    for j in 0..8u8 {
+    (0..8u8).fold(0, |byte, j| {
         let second = bit.wrapping_add(u64::from(j)).wrapping_sub(FIRST_BIT);
-        if is_picked(second) {
-            byte |= 1u8 << j;
-        }
-    }
-    byte
+        byte | (u8::from(is_picked(second)) << j)
+    })
 }
 
 /// The picked seconds, as a bitmap.
 fn picked_bytes(heap: Global) -> Result<Vec<u8>, AllocError> {
-    let mut bytes = Vec::new(heap);
-    for k in 0..385u64 {
-        bytes.push(picked_byte(8 * k))?;
-    }
-    Ok(bytes)
-}
-
-/// The times of the log, as a list.
-fn times(heap: Global) -> Result<Vec<u64>, AllocError> {
-    let mut list = Vec::new(heap);
-    for second in 0..SECONDS {
-        list.push(second)?;
-    }
-    Ok(list)
+    (0..385u64).map(|k| picked_byte(8 * k)).collect(heap)
 }
 
 fn show_notes(
@@ -243,47 +133,18 @@ fn show_notes(
     notes: &[Result<Receipt, Refusal>],
 ) -> anyhow::Result<()> {
     for note in notes {
-        match *note {
-            Ok(receipt) => {
-                let count = receipt.count;
-                let fee = receipt.fee;
-                println!(rt; "{what}: ok, {count} readings for {fee}")?;
-            }
-            Err(refusal) => {
-                let number = refusal.number();
-                let place = refusal.place();
-                println!(rt; "{what}: no, number {number}, place {place}")?;
-            }
+        match note {
+            Ok(receipt) => println!(rt; "{what}: ok, {receipt}")?,
+            Err(refusal) => println!(rt; "{what}: no, {refusal}")?,
         }
     }
     Ok(())
 }
 
-fn by_bitmap(bytes: &[u8]) -> Push<'_> {
+fn at_once(selection: Selection<'_>) -> Push<'_> {
     Push {
         offset: 0,
-        selection: Selection::Bitmap(Window {
-            bytes,
-            start: FIRST_BIT,
-            len: SECONDS,
-        }),
-    }
-}
-
-fn by_indices(indices: &[u64]) -> Push<'_> {
-    Push {
-        offset: 0,
-        selection: Selection::Indices {
-            indices,
-            len: SECONDS,
-        },
-    }
-}
-
-fn by_runs(runs: &[Run], len: u64) -> Push<'_> {
-    Push {
-        offset: 0,
-        selection: Selection::Runs { runs, len },
+        selection,
     }
 }
 
@@ -323,7 +184,7 @@ fn show_both(
     show_notes(rt, "  ramp", &notes2)?;
     let left = one.source.left();
     let left2 = other.source.left();
-    let same = if left == left2 && same_values(&output, &output2) {
+    let same = if left == left2 && output.as_slice() == output2.as_slice() {
         "they agree"
     } else {
         "they differ"
@@ -332,42 +193,37 @@ fn show_both(
     Ok(())
 }
 
-fn same_values(one: &[u64], other: &[u64]) -> bool {
-    let mut same = one.len() == other.len();
-    for (a, b) in one.iter().zip(other) {
-        same = same && *a == *b;
-    }
-    same
-}
-
 /// The same pick in three forms, over a list of times and over a count of seconds. One push over
 /// the list is not well formed.
-fn show_pushes<'a>(
-    rt: &HostRuntime,
-    list: &[u64],
-    bytes: &'a [u8],
-    indices: &'a [u64],
-    stretches: &'a [Run],
-) -> anyhow::Result<()> {
-    let bitmap = by_bitmap(bytes);
-    let seconds = by_indices(indices);
-    let runs = by_runs(stretches, SECONDS);
-    let short = by_runs(stretches, 1500);
+fn show_forms(rt: &HostRuntime) -> anyhow::Result<()> {
+    let heap = rt.alloc();
+    let list = stretch(heap, 0, SECONDS)?;
+    let indices = picked_seconds(heap)?;
+    let bytes = picked_bytes(heap)?;
+    let bitmap = at_once(Selection::Bitmap(Window {
+        bytes: &bytes,
+        start: FIRST_BIT,
+        len: SECONDS,
+    }));
+    let seconds = at_once(Selection::Indices {
+        indices: &indices,
+        len: SECONDS,
+    });
+    let runs = at_once(Selection::Runs {
+        runs: &STRETCHES,
+        len: SECONDS,
+    });
+    let short = at_once(Selection::Runs {
+        runs: &STRETCHES,
+        len: 1500,
+    });
     println!(rt; "one pick in three forms, over two kinds of source")?;
     show_both(
         rt,
-        list,
+        &list,
         &[bitmap, short, seconds, runs],
         &[runs, bitmap, seconds],
     )
-}
-
-fn show_forms(rt: &HostRuntime) -> anyhow::Result<()> {
-    let heap = rt.alloc();
-    let list = times(heap)?;
-    let indices = picked_seconds(heap)?;
-    let bytes = picked_bytes(heap)?;
-    show_pushes(rt, &list, &bytes, &indices, &STRETCHES)
 }
 
 fn run(rt: &HostRuntime) -> anyhow::Result<()> {
@@ -399,9 +255,7 @@ fn run(rt: &HostRuntime) -> anyhow::Result<()> {
         &mut scratch,
     )?;
     show_refusals(rt, &mut filter, &mut output, &mut scratch)?;
-    let written = filter.written();
-    let fees = filter.fees();
-    println!(rt; "in all: {written} readings for {fees}")?;
+    println!(rt; "in all: {} readings for {}", filter.written(), filter.fees())?;
     show_forms(rt)
 }
 
