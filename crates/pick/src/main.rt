@@ -111,7 +111,9 @@ fn is_picked(second: u64) -> bool {
 
 /// The picked seconds, as an index list.
 fn picked_seconds(heap: Global) -> Result<Vec<u64>, AllocError> {
-    (0..SECONDS).filter(|second| is_picked(*second)).collect(heap)
+    (0..SECONDS)
+        .filter(|second| is_picked(*second))
+        .collect(heap)
 }
 
 /// Eight bits of the bitmap, from one of them on.
@@ -255,7 +257,11 @@ fn run(rt: &HostRuntime) -> anyhow::Result<()> {
         &mut scratch,
     )?;
     show_refusals(rt, &mut filter, &mut output, &mut scratch)?;
-    println!(rt; "in all: {} readings for {}", filter.written(), filter.fees())?;
+    println!(rt;
+        "in all: {} readings for {}",
+        filter.written(),
+        filter.fees()
+    )?;
     show_forms(rt)
 }
 

@@ -2,6 +2,8 @@
 ghost use Rattle.std.specs.Prelude.{◌≡◌};
 ghost use Rattle.selection.specs.Refusals.{number_of, place_of};
 
+use std::fmt;
+
 /// Why a call was refused. `place` says where, and is 0 where a case has none.
 #[derive(Clone, Copy, PartialEq, Eq, Debug)]
 pub enum Refusal {
@@ -68,5 +70,11 @@ impl Refusal {
             | Refusal::Spent { place } => place,
             _ => 0,
         }
+    }
+}
+
+impl fmt::Display for Refusal {
+    fn fmt<W: fmt::Write>(&self, f: &mut fmt::Formatter<W>) -> fmt::Result {
+        write!(f, "number {}, place {}", self.number(), self.place())
     }
 }

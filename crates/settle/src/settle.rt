@@ -11,6 +11,7 @@ ghost use Rattle.settle.specs.Pushes.{answer, fee as fee_under, grant_fault, mov
 
 use selection::{Refusal, Run, Selection, Window, check_index, check_len, check_run};
 use source::CHUNK;
+use std::fmt;
 
 /// A selection, and what is added to each of its positions.
 #[derive(Clone, Copy)]
@@ -24,6 +25,12 @@ pub struct Push<'a> {
 pub struct Receipt {
     pub count: u64,
     pub fee: u64,
+}
+
+impl fmt::Display for Receipt {
+    fn fmt<W: fmt::Write>(&self, f: &mut fmt::Formatter<W>) -> fmt::Result {
+        write!(f, "{} readings for {}", self.count, self.fee)
+    }
 }
 
 /// What a push is measured against.
