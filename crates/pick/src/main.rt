@@ -6,7 +6,7 @@ use anyhow::anyhow;
 use chunked::{ChunkedFilter, Push, Receipt};
 use doors::{AROUND, Door, SECONDS, STRETCHES, Summary, door_log, reading};
 use kernels::Event;
-use runs::run_both;
+use runs::{Batch, run_both};
 use selection::{Refusal, Run, Selection, Window};
 use source::{ChunkDecoder, Ramp, Table};
 use std::alloc::{AllocError, Global};
@@ -33,68 +33,77 @@ fn show_answer(
     Ok(())
 }
 
-/// The pick around the gap, reading by reading.
-fn show_gap(
-    rt: &HostRuntime,
-    filter: &mut ChunkedFilter<Table<'_, Event>>,
-    output: &mut [Event],
-    scratch: &mut [Event],
-) -> anyhow::Result<()> {
-    let answer = filter.push_mask_indices(0, &AROUND, SECONDS, output, scratch);
-    show_answer(rt, "around the gap", answer, filter.left())?;
-    for event in output.iter().take(AROUND.len()) {
-        show_reading(rt, event)?;
+/// Picks from the log by index lists.
+#[derive(Drop)]
+struct Picks<'a, D> {
+    rt: &'a HostRuntime,
+    filter: ChunkedFilter<D>,
+    output: Vec<Event>,
+    scratch: Vec<Event>,
+}
+
+impl<D: ChunkDecoder<Item = Event>> Picks<'_, D> {
+    /// Pushes an index list, and shows the answer.
+    fn push(&mut self, what: &str, offset: u64, indices: &[u64], len: u64) -> anyhow::Result<()> {
+        let answer = self
+            .filter
+            .push_mask_indices(offset, indices, len, &mut self.output, &mut self.scratch);
+        show_answer(self.rt, what, answer, self.filter.left())
     }
-    Ok(())
+
+    /// The pick around the gap, reading by reading.
+    fn show_gap(&mut self) -> anyhow::Result<()> {
+        self.push("around the gap", 0, &AROUND, SECONDS)?;
+        for event in self.output.iter().take(AROUND.len()) {
+            show_reading(self.rt, event)?;
+        }
+        Ok(())
+    }
+
+    /// A pick of the seconds from `start` up to and without `end`, which are fetched by whole chunks.
+    fn show_stretch(&mut self, what: &str, start: u64, end: u64) -> anyhow::Result<()> {
+        let seconds = stretch(self.rt.alloc(), start, end)?;
+        let before = self.filter.written() as usize;
+        self.push(what, 0, &seconds, SECONDS)?;
+        let after = self.filter.written() as usize;
+        if let Some(summary) = self.output.get(before..after).and_then(Summary::of) {
+            println!(self.rt; "  {summary}")?;
+        }
+        Ok(())
+    }
+
+    /// One pick for each refusal that a push of an index list can give.
+    fn show_refusals(&mut self) -> anyhow::Result<()> {
+        self.push("too long", 0, &[], 16_777_217)?;
+        self.push("not ascending", 0, &[5, 9, 9], 10)?;
+        self.push("past the length", 0, &[5, 10], 10)?;
+        self.push("too far off", 1025, &[5], 10)?;
+        let answer = self
+            .filter
+            .push_mask_indices(0, &[5], 10, &mut self.output, &mut []);
+        show_answer(self.rt, "no scratch", answer, self.filter.left())?;
+        self.push("beyond the log", 1, &[5, 3071], 3072)?;
+        let answer = self
+            .filter
+            .push_mask_indices(0, &[5, 6], 10, &mut [], &mut self.scratch);
+        show_answer(self.rt, "no room", answer, self.filter.left())?;
+        self.push("the allowance is spent", 0, &AROUND, SECONDS)
+    }
+
+    /// What was picked, and for how much.
+    fn show_totals(&self) -> anyhow::Result<()> {
+        println!(self.rt;
+            "in all: {} readings for {}",
+            self.filter.written(),
+            self.filter.fees()
+        )?;
+        Ok(())
+    }
 }
 
 /// The seconds from `start` up to and without `end`.
 fn stretch(heap: Global, start: u64, end: u64) -> Result<Vec<u64>, AllocError> {
     (start..end).collect(heap)
-}
-
-/// A pick of a whole stretch, which is fetched by whole chunks.
-fn show_stretch(
-    rt: &HostRuntime,
-    what: &str,
-    filter: &mut ChunkedFilter<Table<'_, Event>>,
-    seconds: &[u64],
-    output: &mut [Event],
-    scratch: &mut [Event],
-) -> anyhow::Result<()> {
-    let before = filter.written() as usize;
-    let answer = filter.push_mask_indices(0, seconds, SECONDS, output, scratch);
-    let after = filter.written() as usize;
-    show_answer(rt, what, answer, filter.left())?;
-    if let Some(summary) = output.get(before..after).and_then(Summary::of) {
-        println!(rt; "  {summary}")?;
-    }
-    Ok(())
-}
-
-/// One pick for each refusal that a push of an index list can give.
-fn show_refusals(
-    rt: &HostRuntime,
-    filter: &mut ChunkedFilter<Table<'_, Event>>,
-    output: &mut [Event],
-    scratch: &mut [Event],
-) -> anyhow::Result<()> {
-    let answer = filter.push_mask_indices(0, &[], 16_777_217, output, scratch);
-    show_answer(rt, "too long", answer, filter.left())?;
-    let answer = filter.push_mask_indices(0, &[5, 9, 9], 10, output, scratch);
-    show_answer(rt, "not ascending", answer, filter.left())?;
-    let answer = filter.push_mask_indices(0, &[5, 10], 10, output, scratch);
-    show_answer(rt, "past the length", answer, filter.left())?;
-    let answer = filter.push_mask_indices(1025, &[5], 10, output, scratch);
-    show_answer(rt, "too far off", answer, filter.left())?;
-    let answer = filter.push_mask_indices(0, &[5], 10, output, &mut []);
-    show_answer(rt, "no scratch", answer, filter.left())?;
-    let answer = filter.push_mask_indices(1, &[5, 3071], 3072, output, scratch);
-    show_answer(rt, "beyond the log", answer, filter.left())?;
-    let answer = filter.push_mask_indices(0, &[5, 6], 10, &mut [], scratch);
-    show_answer(rt, "no room", answer, filter.left())?;
-    let answer = filter.push_mask_indices(0, &AROUND, SECONDS, output, scratch);
-    show_answer(rt, "the allowance is spent", answer, filter.left())
 }
 
 /// Where the bitmap starts in its first byte.
@@ -170,18 +179,19 @@ fn show_both(
     let Ok(ramp) = Ramp::new(0, 1, 3, ALLOWANCE) else {
         return Err(anyhow!("too many chunks"));
     };
-    let (one, other) = run_both(
-        table,
+    let mut batch = Batch {
         pushes,
-        &mut output,
-        &mut scratch,
-        &mut notes,
-        ramp,
-        others,
-        &mut output2,
-        &mut scratch2,
-        &mut notes2,
-    );
+        output: &mut output,
+        scratch: &mut scratch,
+        notes: &mut notes,
+    };
+    let mut batch2 = Batch {
+        pushes: others,
+        output: &mut output2,
+        scratch: &mut scratch2,
+        notes: &mut notes2,
+    };
+    let (one, other) = run_both(table, &mut batch, ramp, &mut batch2);
     show_notes(rt, "  table", &notes)?;
     show_notes(rt, "  ramp", &notes2)?;
     let left = one.source.left();
@@ -231,37 +241,21 @@ fn show_forms(rt: &HostRuntime) -> anyhow::Result<()> {
 fn run(rt: &HostRuntime) -> anyhow::Result<()> {
     let heap = rt.alloc();
     let log = door_log(heap)?;
-    let mut output = vec![in heap; reading(0); 2048]?;
-    let mut scratch = vec![in heap; reading(0); 1024]?;
-    let minutes = stretch(heap, 1440, 1620)?;
-    let chunk = stretch(heap, 1024, 2048)?;
     let Ok(table) = Table::new(&log, 2063) else {
         return Err(anyhow!("the log is not in whole chunks"));
     };
-    let mut filter = ChunkedFilter::new(table);
-    show_gap(rt, &mut filter, &mut output, &mut scratch)?;
-    show_stretch(
+    let filter = ChunkedFilter::new(table);
+    let mut picks = Picks {
         rt,
-        "three minutes",
-        &mut filter,
-        &minutes,
-        &mut output,
-        &mut scratch,
-    )?;
-    show_stretch(
-        rt,
-        "a whole chunk",
-        &mut filter,
-        &chunk,
-        &mut output,
-        &mut scratch,
-    )?;
-    show_refusals(rt, &mut filter, &mut output, &mut scratch)?;
-    println!(rt;
-        "in all: {} readings for {}",
-        filter.written(),
-        filter.fees()
-    )?;
+        filter,
+        output: vec![in heap; reading(0); 2048]?,
+        scratch: vec![in heap; reading(0); 1024]?,
+    };
+    picks.show_gap()?;
+    picks.show_stretch("three minutes", 1440, 1620)?;
+    picks.show_stretch("a whole chunk", 1024, 2048)?;
+    picks.show_refusals()?;
+    picks.show_totals()?;
     show_forms(rt)
 }
 
