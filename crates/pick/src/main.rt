@@ -1,66 +1,22 @@
 //! Picks the readings around a gap in a door log, shows what a push refuses, and makes one pick in
 //! three forms over two kinds of source.
-//!
-//! The log has a reading for each second: the door signal of a lift. A cable was pulled for a
-//! while, so the signal drops out, and comes back when the cable is in place again.
 #![tactic(auto)]
 
 use anyhow::anyhow;
 use chunked::{ChunkedFilter, Push, Receipt};
+use doors::{AROUND, Door, SECONDS, STRETCHES, Summary, door_log, reading};
 use kernels::Event;
-use runs::run_both;
+use runs::{Batch, run_both};
 use selection::{Refusal, Run, Selection, Window};
 use source::{ChunkDecoder, Ramp, Table};
 use std::alloc::{AllocError, Global};
 
-/// The seconds of the log: three chunks.
-const SECONDS: u64 = 3072;
-
-/// The cable is out from this second on ..
-const PULLED: u64 = 1500;
-
-/// .. and in place again from this one on.
-const BACK: u64 = 1540;
-
-/// The readings around the gap that are picked.
-const AROUND: [u64; 10] = [1480, 1490, 1498, 1499, 1500, 1520, 1539, 1540, 1541, 1560];
-
-/// The door signal is there.
-const SIGNAL: u32 = 1;
-
-/// It is not.
-const NO_SIGNAL: u32 = 0;
-
-fn reading(second: u64) -> Event {
-    let code = if second >= PULLED && second < BACK {
-        NO_SIGNAL
-    } else {
-        SIGNAL
-    };
-    Event {
-        time: second,
-        lift: 7,
-        code,
-    }
-}
-
-fn door_log(heap: Global) -> Result<Vec<Event>, AllocError> {
-    let mut log = Vec::new(heap);
-    for second in 0..SECONDS {
-        log.push(reading(second))?;
-    }
-    Ok(log)
-}
-
 fn show_reading(rt: &HostRuntime, event: &Event) -> anyhow::Result<()> {
-    let time = event.time;
-    let lift = event.lift;
-    let door = if event.code == NO_SIGNAL {
-        "no signal"
-    } else {
-        "signal"
-    };
-    println!(rt; "  second {time}, lift {lift}: {door}")?;
+    print!(rt; "  second {}, lift {}: ", event.time, event.lift)?;
+    match Door::try_from(event.code) {
+        Ok(door) => println!(rt; "{door}")?,
+        Err(code) => println!(rt; "{code}")?,
+    }
     Ok(())
 }
 
@@ -71,116 +27,84 @@ fn show_answer(
     left: u64,
 ) -> anyhow::Result<()> {
     match answer {
-        Ok(receipt) => {
-            let count = receipt.count;
-            let fee = receipt.fee;
-            println!(rt; "{what}: ok, {count} readings for {fee}, {left} left")?;
-        }
-        Err(refusal) => {
-            let number = refusal.number();
-            let place = refusal.place();
-            println!(rt; "{what}: no, number {number}, place {place}, {left} left")?;
-        }
+        Ok(receipt) => println!(rt; "{what}: ok, {receipt}, {left} left")?,
+        Err(refusal) => println!(rt; "{what}: no, {refusal}, {left} left")?,
     }
     Ok(())
 }
 
-/// The pick around the gap, reading by reading.
-fn show_gap(
-    rt: &HostRuntime,
-    filter: &mut ChunkedFilter<Table<'_, Event>>,
-    output: &mut [Event],
-    scratch: &mut [Event],
-) -> anyhow::Result<()> {
-    let answer = filter.push_mask_indices(0, &AROUND, SECONDS, output, scratch);
-    show_answer(rt, "around the gap", answer, filter.left())?;
-    for event in output.iter().take(AROUND.len()) {
-        show_reading(rt, event)?;
+/// Picks from the log by index lists.
+#[derive(Drop)]
+struct Picks<'a, D> {
+    rt: &'a HostRuntime,
+    filter: ChunkedFilter<D>,
+    output: Vec<Event>,
+    scratch: Vec<Event>,
+}
+
+impl<D: ChunkDecoder<Item = Event>> Picks<'_, D> {
+    /// Pushes an index list, and shows the answer.
+    fn push(&mut self, what: &str, offset: u64, indices: &[u64], len: u64) -> anyhow::Result<()> {
+        let answer = self
+            .filter
+            .push_mask_indices(offset, indices, len, &mut self.output, &mut self.scratch);
+        show_answer(self.rt, what, answer, self.filter.left())
     }
-    Ok(())
+
+    /// The pick around the gap, reading by reading.
+    fn show_gap(&mut self) -> anyhow::Result<()> {
+        self.push("around the gap", 0, &AROUND, SECONDS)?;
+        for event in self.output.iter().take(AROUND.len()) {
+            show_reading(self.rt, event)?;
+        }
+        Ok(())
+    }
+
+    /// A pick of the seconds from `start` up to and without `end`, which are fetched by whole chunks.
+    fn show_stretch(&mut self, what: &str, start: u64, end: u64) -> anyhow::Result<()> {
+        let seconds = stretch(self.rt.alloc(), start, end)?;
+        let before = self.filter.written() as usize;
+        self.push(what, 0, &seconds, SECONDS)?;
+        let after = self.filter.written() as usize;
+        if let Some(summary) = self.output.get(before..after).and_then(Summary::of) {
+            println!(self.rt; "  {summary}")?;
+        }
+        Ok(())
+    }
+
+    /// One pick for each refusal that a push of an index list can give.
+    fn show_refusals(&mut self) -> anyhow::Result<()> {
+        self.push("too long", 0, &[], 16_777_217)?;
+        self.push("not ascending", 0, &[5, 9, 9], 10)?;
+        self.push("past the length", 0, &[5, 10], 10)?;
+        self.push("too far off", 1025, &[5], 10)?;
+        let answer = self
+            .filter
+            .push_mask_indices(0, &[5], 10, &mut self.output, &mut []);
+        show_answer(self.rt, "no scratch", answer, self.filter.left())?;
+        self.push("beyond the log", 1, &[5, 3071], 3072)?;
+        let answer = self
+            .filter
+            .push_mask_indices(0, &[5, 6], 10, &mut [], &mut self.scratch);
+        show_answer(self.rt, "no room", answer, self.filter.left())?;
+        self.push("the allowance is spent", 0, &AROUND, SECONDS)
+    }
+
+    /// What was picked, and for how much.
+    fn show_totals(&self) -> anyhow::Result<()> {
+        println!(self.rt;
+            "in all: {} readings for {}",
+            self.filter.written(),
+            self.filter.fees()
+        )?;
+        Ok(())
+    }
 }
 
 /// The seconds from `start` up to and without `end`.
 fn stretch(heap: Global, start: u64, end: u64) -> Result<Vec<u64>, AllocError> {
-    let mut seconds = Vec::new(heap);
-    for second in start..end {
-        seconds.push(second)?;
-    }
-    Ok(seconds)
+    (start..end).collect(heap)
 }
-
-/// What was picked, in one line.
-fn show_part(rt: &HostRuntime, part: &[Event]) -> anyhow::Result<()> {
-    let mut silent: usize = 0;
-    for event in part {
-        if event.code == NO_SIGNAL {
-            silent = silent.saturating_add(1);
-        }
-    }
-    if let (Some(first), Some(last)) = (part.first(), part.last()) {
-        let from = first.time;
-        let to = last.time;
-        println!(rt; "  second {from} to second {to}, {silent} without a signal")?;
-    }
-    Ok(())
-}
-
-/// A pick of a whole stretch, which is fetched by whole chunks.
-fn show_stretch(
-    rt: &HostRuntime,
-    what: &str,
-    filter: &mut ChunkedFilter<Table<'_, Event>>,
-    seconds: &[u64],
-    output: &mut [Event],
-    scratch: &mut [Event],
-) -> anyhow::Result<()> {
-    let before = filter.written() as usize;
-    let answer = filter.push_mask_indices(0, seconds, SECONDS, output, scratch);
-    let after = filter.written() as usize;
-    show_answer(rt, what, answer, filter.left())?;
-    if before <= after && after <= output.len() {
-        show_part(rt, &output[before..after])?;
-    }
-    Ok(())
-}
-
-/// One pick for each refusal that a push of an index list can give.
-fn show_refusals(
-    rt: &HostRuntime,
-    filter: &mut ChunkedFilter<Table<'_, Event>>,
-    output: &mut [Event],
-    scratch: &mut [Event],
-) -> anyhow::Result<()> {
-    let answer = filter.push_mask_indices(0, &[], 16_777_217, output, scratch);
-    show_answer(rt, "too long", answer, filter.left())?;
-    let answer = filter.push_mask_indices(0, &[5, 9, 9], 10, output, scratch);
-    show_answer(rt, "not ascending", answer, filter.left())?;
-    let answer = filter.push_mask_indices(0, &[5, 10], 10, output, scratch);
-    show_answer(rt, "past the length", answer, filter.left())?;
-    let answer = filter.push_mask_indices(1025, &[5], 10, output, scratch);
-    show_answer(rt, "too far off", answer, filter.left())?;
-    let answer = filter.push_mask_indices(0, &[5], 10, output, &mut []);
-    show_answer(rt, "no scratch", answer, filter.left())?;
-    let answer = filter.push_mask_indices(1, &[5, 3071], 3072, output, scratch);
-    show_answer(rt, "beyond the log", answer, filter.left())?;
-    let answer = filter.push_mask_indices(0, &[5, 6], 10, &mut [], scratch);
-    show_answer(rt, "no room", answer, filter.left())?;
-    let answer = filter.push_mask_indices(0, &AROUND, SECONDS, output, scratch);
-    show_answer(rt, "the allowance is spent", answer, filter.left())
-}
-
-/// What is picked in three forms: ten seconds across the edge of a chunk, and two hundred around
-/// the gap.
-const STRETCHES: [Run; 2] = [
-    Run {
-        start: 1020,
-        end: 1030,
-    },
-    Run {
-        start: 1450,
-        end: 1650,
-    },
-];
 
 /// Where the bitmap starts in its first byte.
 const FIRST_BIT: u64 = 3;
@@ -189,52 +113,29 @@ const FIRST_BIT: u64 = 3;
 const ALLOWANCE: u64 = 4000;
 
 fn is_picked(second: u64) -> bool {
-    let mut picked = false;
-    for run in &STRETCHES {
-        picked = picked || (run.start <= second && second < run.end);
-    }
-    picked
+    STRETCHES
+        .iter()
+        .any(|run| run.start <= second && second < run.end)
 }
 
 /// The picked seconds, as an index list.
 fn picked_seconds(heap: Global) -> Result<Vec<u64>, AllocError> {
-    let mut seconds = Vec::new(heap);
-    for second in 0..SECONDS {
-        if is_picked(second) {
-            seconds.push(second)?;
-        }
-    }
-    Ok(seconds)
+    (0..SECONDS)
+        .filter(|second| is_picked(*second))
+        .collect(heap)
 }
 
 /// Eight bits of the bitmap, from one of them on.
 fn picked_byte(bit: u64) -> u8 {
-    let mut byte = 0;
-    for j in 0..8u8 {
+    (0..8u8).fold(0, |byte, j| {
         let second = bit.wrapping_add(u64::from(j)).wrapping_sub(FIRST_BIT);
-        if is_picked(second) {
-            byte |= 1u8 << j;
-        }
-    }
-    byte
+        byte | (u8::from(is_picked(second)) << j)
+    })
 }
 
 /// The picked seconds, as a bitmap.
 fn picked_bytes(heap: Global) -> Result<Vec<u8>, AllocError> {
-    let mut bytes = Vec::new(heap);
-    for k in 0..385u64 {
-        bytes.push(picked_byte(8 * k))?;
-    }
-    Ok(bytes)
-}
-
-/// The times of the log, as a list.
-fn times(heap: Global) -> Result<Vec<u64>, AllocError> {
-    let mut list = Vec::new(heap);
-    for second in 0..SECONDS {
-        list.push(second)?;
-    }
-    Ok(list)
+    (0..385u64).map(|k| picked_byte(8 * k)).collect(heap)
 }
 
 fn show_notes(
@@ -243,47 +144,18 @@ fn show_notes(
     notes: &[Result<Receipt, Refusal>],
 ) -> anyhow::Result<()> {
     for note in notes {
-        match *note {
-            Ok(receipt) => {
-                let count = receipt.count;
-                let fee = receipt.fee;
-                println!(rt; "{what}: ok, {count} readings for {fee}")?;
-            }
-            Err(refusal) => {
-                let number = refusal.number();
-                let place = refusal.place();
-                println!(rt; "{what}: no, number {number}, place {place}")?;
-            }
+        match note {
+            Ok(receipt) => println!(rt; "{what}: ok, {receipt}")?,
+            Err(refusal) => println!(rt; "{what}: no, {refusal}")?,
         }
     }
     Ok(())
 }
 
-fn by_bitmap(bytes: &[u8]) -> Push<'_> {
+fn at_once(selection: Selection<'_>) -> Push<'_> {
     Push {
         offset: 0,
-        selection: Selection::Bitmap(Window {
-            bytes,
-            start: FIRST_BIT,
-            len: SECONDS,
-        }),
-    }
-}
-
-fn by_indices(indices: &[u64]) -> Push<'_> {
-    Push {
-        offset: 0,
-        selection: Selection::Indices {
-            indices,
-            len: SECONDS,
-        },
-    }
-}
-
-fn by_runs(runs: &[Run], len: u64) -> Push<'_> {
-    Push {
-        offset: 0,
-        selection: Selection::Runs { runs, len },
+        selection,
     }
 }
 
@@ -307,23 +179,24 @@ fn show_both(
     let Ok(ramp) = Ramp::new(0, 1, 3, ALLOWANCE) else {
         return Err(anyhow!("too many chunks"));
     };
-    let (one, other) = run_both(
-        table,
+    let mut batch = Batch {
         pushes,
-        &mut output,
-        &mut scratch,
-        &mut notes,
-        ramp,
-        others,
-        &mut output2,
-        &mut scratch2,
-        &mut notes2,
-    );
+        output: &mut output,
+        scratch: &mut scratch,
+        notes: &mut notes,
+    };
+    let mut batch2 = Batch {
+        pushes: others,
+        output: &mut output2,
+        scratch: &mut scratch2,
+        notes: &mut notes2,
+    };
+    let (one, other) = run_both(table, &mut batch, ramp, &mut batch2);
     show_notes(rt, "  table", &notes)?;
     show_notes(rt, "  ramp", &notes2)?;
     let left = one.source.left();
     let left2 = other.source.left();
-    let same = if left == left2 && same_values(&output, &output2) {
+    let same = if left == left2 && output.as_slice() == output2.as_slice() {
         "they agree"
     } else {
         "they differ"
@@ -332,76 +205,57 @@ fn show_both(
     Ok(())
 }
 
-fn same_values(one: &[u64], other: &[u64]) -> bool {
-    let mut same = one.len() == other.len();
-    for (a, b) in one.iter().zip(other) {
-        same = same && *a == *b;
-    }
-    same
-}
-
 /// The same pick in three forms, over a list of times and over a count of seconds. One push over
 /// the list is not well formed.
-fn show_pushes<'a>(
-    rt: &HostRuntime,
-    list: &[u64],
-    bytes: &'a [u8],
-    indices: &'a [u64],
-    stretches: &'a [Run],
-) -> anyhow::Result<()> {
-    let bitmap = by_bitmap(bytes);
-    let seconds = by_indices(indices);
-    let runs = by_runs(stretches, SECONDS);
-    let short = by_runs(stretches, 1500);
+fn show_forms(rt: &HostRuntime) -> anyhow::Result<()> {
+    let heap = rt.alloc();
+    let list = stretch(heap, 0, SECONDS)?;
+    let indices = picked_seconds(heap)?;
+    let bytes = picked_bytes(heap)?;
+    let bitmap = at_once(Selection::Bitmap(Window {
+        bytes: &bytes,
+        start: FIRST_BIT,
+        len: SECONDS,
+    }));
+    let seconds = at_once(Selection::Indices {
+        indices: &indices,
+        len: SECONDS,
+    });
+    let runs = at_once(Selection::Runs {
+        runs: &STRETCHES,
+        len: SECONDS,
+    });
+    let short = at_once(Selection::Runs {
+        runs: &STRETCHES,
+        len: 1500,
+    });
     println!(rt; "one pick in three forms, over two kinds of source")?;
     show_both(
         rt,
-        list,
+        &list,
         &[bitmap, short, seconds, runs],
         &[runs, bitmap, seconds],
     )
 }
 
-fn show_forms(rt: &HostRuntime) -> anyhow::Result<()> {
-    let heap = rt.alloc();
-    let list = times(heap)?;
-    let indices = picked_seconds(heap)?;
-    let bytes = picked_bytes(heap)?;
-    show_pushes(rt, &list, &bytes, &indices, &STRETCHES)
-}
-
 fn run(rt: &HostRuntime) -> anyhow::Result<()> {
     let heap = rt.alloc();
     let log = door_log(heap)?;
-    let mut output = vec![in heap; reading(0); 2048]?;
-    let mut scratch = vec![in heap; reading(0); 1024]?;
-    let minutes = stretch(heap, 1440, 1620)?;
-    let chunk = stretch(heap, 1024, 2048)?;
     let Ok(table) = Table::new(&log, 2063) else {
         return Err(anyhow!("the log is not in whole chunks"));
     };
-    let mut filter = ChunkedFilter::new(table);
-    show_gap(rt, &mut filter, &mut output, &mut scratch)?;
-    show_stretch(
+    let filter = ChunkedFilter::new(table);
+    let mut picks = Picks {
         rt,
-        "three minutes",
-        &mut filter,
-        &minutes,
-        &mut output,
-        &mut scratch,
-    )?;
-    show_stretch(
-        rt,
-        "a whole chunk",
-        &mut filter,
-        &chunk,
-        &mut output,
-        &mut scratch,
-    )?;
-    show_refusals(rt, &mut filter, &mut output, &mut scratch)?;
-    let written = filter.written();
-    let fees = filter.fees();
-    println!(rt; "in all: {written} readings for {fees}")?;
+        filter,
+        output: vec![in heap; reading(0); 2048]?,
+        scratch: vec![in heap; reading(0); 1024]?,
+    };
+    picks.show_gap()?;
+    picks.show_stretch("three minutes", 1440, 1620)?;
+    picks.show_stretch("a whole chunk", 1024, 2048)?;
+    picks.show_refusals()?;
+    picks.show_totals()?;
     show_forms(rt)
 }
 

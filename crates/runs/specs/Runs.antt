@@ -1,11 +1,12 @@
 -- Several pushes, one after another.
-use Rattle.std.specs.Prelude.{ℕ, ◌+◌, Bool, cond, not, List, [], ◌∷◌, ◌++◌, is_some, Ok, Err, fold, Option, nat_lt}
+use Rattle.std.specs.Prelude.{◌≡◌, ℕ, ◌+◌, Bool, cond, not, List, [], ◌∷◌, ◌++◌, is_some, Ok, Err, fold, Option, nat_lt}
 use Rattle.settle.specs.declared.settle.Push.{Push}
 use Rattle.settle.specs.declared.settle.Receipt.{Receipt}
 use Rattle.selection.specs.declared.refusals.Refusal.{Refusal}
 use Rattle.selection.specs.declared.refusals.Refusal.TheVariants.{Output}
 use Rattle.selection.specs.Refusals.{when}
 use Rattle.runs.specs.declared.runs.Ended.{Ended}
+use Rattle.runs.specs.declared.runs.Batch.{Batch}
 use Rattle.settle.specs.Pushes.{Answer, answer, misformed}
 use Rattle.chunked.specs.Served.{State, next, terms_of}
 
@@ -49,6 +50,21 @@ new_state xs left out aside = record { readings = xs; allowance = left; written 
 -- the state that a run ended in
 abbrev pub ended_in : {D T : Type 0} → (D → List T) → (D → ℕ) → Ended D → List T → List T → State T
 ended_in readings allowance e out aside = record { readings = readings e.source; allowance = allowance e.source; written = e.written; fees = e.fees; output = out; scratch = aside }
+
+-- where a batch begins, over such readings with so much left
+abbrev pub start_of : {T : Type 0} → List T → ℕ → Batch T → State T
+start_of xs left b = new_state xs left b.output.now b.scratch.now
+
+-- and where it ends
+abbrev pub end_of : {D T : Type 0} → (D → List T) → (D → ℕ) → Ended D → Batch T → State T
+end_of readings allowance e b = ended_in readings allowance e b.output.now b.scratch.now
+
+-- a batch has the same pushes as before, and the same places to write to
+pub record SamePlaces {T : Type 0} (b b' : Batch T) : Type 0 where
+  pub pushes : b'.pushes ≡ b.pushes
+  pub output : b'.output.ghost_name ≡ b.output.ghost_name
+  pub scratch : b'.scratch.ghost_name ≡ b.scratch.ghost_name
+  pub notes : b'.notes.ghost_name ≡ b.notes.ghost_name
 
 -- too few places to note the answers to so many pushes
 abbrev pub notes_fault : ℕ → ℕ → Option Refusal

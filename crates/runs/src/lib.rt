@@ -3,4 +3,4 @@
 
 mod runs;
 
-pub use runs::{Ended, run_both, run_pushes};
+pub use runs::{Batch, Ended, run_both, run_pushes};

@@ -4,13 +4,23 @@ ghost use Rattle.std.specs.List.{AllZip};
 ghost use Rattle.selection.specs.Refusals.{answered, settled};
 ghost use Rattle.kernels.specs.Moved.{limit_at_width, splice};
 ghost use Rattle.chunked.specs.Served.{state_of};
-ghost use Rattle.runs.specs.Runs.{after, answers as answers_to, ended_in, new_state, notes_fault};
+ghost use Rattle.runs.specs.Runs.{SamePlaces, after, answers as answers_to, end_of, notes_fault, start_of};
 ghost use Rattle.runs.specs.Laws.{Agree, Alike, Balanced, Fresh, Ran, SamePick, formed_ones};
 
 use chunked::{ChunkedFilter, Push, Receipt};
 use kernels::Element;
 use selection::Refusal;
 use source::ChunkDecoder;
+
+/// Some pushes, and the places that they write to.
+#[derive(Drop)]
+pub struct Batch<'a, T> {
+    pub pushes: &'a [Push<'a>],
+    pub output: &'a mut [T],
+    pub scratch: &'a mut [T],
+    /// What each push answers.
+    pub notes: &'a mut [Result<Receipt, Refusal>],
+}
 
 /// How a run ended: the source, the totals, the allowance at first, and whether it was made at all.
 #[derive(Drop)]
@@ -41,25 +51,26 @@ fn push_all<D: ChunkDecoder>(
 
 /// Makes a filter over a source, makes each push in turn, notes every answer, and hands the source
 /// back. With too few notes nothing is done.
-pub fn run_pushes<D: ChunkDecoder>(
-    source: D,
-    pushes: &[Push<'_>],
-    output: &mut [D::Item],
-    scratch: &mut [D::Item],
-    notes: &mut [Result<Receipt, Refusal>],
-) -> Ended<D>
-    ensures ran { Ran (limit_at_width D.Item.Element.WIDTH) pushes.now (new_state (D.ChunkDecoder.readings source) (D.ChunkDecoder.allowance source) output.old scratch.old) (ended_in D.ChunkDecoder.readings D.ChunkDecoder.allowance result output.new scratch.new) notes.old notes.new result.made }
+pub fn run_pushes<D: ChunkDecoder>(source: D, batch: &mut Batch<'_, D::Item>) -> Ended<D>
+    ensures ran { Ran (limit_at_width D.Item.Element.WIDTH) batch.old.pushes.now (start_of (D.ChunkDecoder.readings source) (D.ChunkDecoder.allowance source) batch.old) (end_of D.ChunkDecoder.readings D.ChunkDecoder.allowance result batch.new) batch.old.notes.now batch.new.notes.now result.made }
     ensures first { result.first ≡ D.ChunkDecoder.allowance source }
-    ensures fresh { Fresh (new_state (D.ChunkDecoder.readings source) (D.ChunkDecoder.allowance source) output.old scratch.old) }
-    ensures balanced { notes_fault (length notes.old) (length pushes.now) ≡ None → Balanced (limit_at_width D.Item.Element.WIDTH) (new_state (D.ChunkDecoder.readings source) (D.ChunkDecoder.allowance source) output.old scratch.old) (ended_in D.ChunkDecoder.readings D.ChunkDecoder.allowance result output.new scratch.new) (take (length pushes.now) notes.new) }
+    ensures fresh { Fresh (start_of (D.ChunkDecoder.readings source) (D.ChunkDecoder.allowance source) batch.old) }
+    ensures balanced { notes_fault (length batch.old.notes.now) (length batch.old.pushes.now) ≡ None → Balanced (limit_at_width D.Item.Element.WIDTH) (start_of (D.ChunkDecoder.readings source) (D.ChunkDecoder.allowance source) batch.old) (end_of D.ChunkDecoder.readings D.ChunkDecoder.allowance result batch.new) (take (length batch.old.pushes.now) batch.new.notes.now) }
+    ensures kept { SamePlaces batch.old batch.new }
 {
     let first = source.left();
     let mut filter = ChunkedFilter::new(source);
-    let n = pushes.len();
-    let made = if notes.len() < n {
+    let n = batch.pushes.len();
+    let made = if batch.notes.len() < n {
         Err(Refusal::Output)
     } else {
-        push_all(&mut filter, pushes, output, scratch, &mut notes[0..n]);
+        push_all(
+            &mut filter,
+            batch.pushes,
+            batch.output,
+            batch.scratch,
+            &mut batch.notes[0..n],
+        );
         Ok(())
     };
     let written = filter.written();
@@ -73,26 +84,21 @@ pub fn run_pushes<D: ChunkDecoder>(
     }
 }
 
-/// Makes two lists of pushes, each on a new filter over a source of its own. Lists that pick the
+/// Makes two batches of pushes, each on a new filter over a source of its own. Batches that pick the
 /// same positions of the same readings are answered alike, whatever forms they have.
 pub fn run_both<T: Element, D: ChunkDecoder<Item = T>, E: ChunkDecoder<Item = T>>(
     source: D,
-    pushes: &[Push<'_>],
-    output: &mut [T],
-    scratch: &mut [T],
-    notes: &mut [Result<Receipt, Refusal>],
+    batch: &mut Batch<'_, T>,
     source2: E,
-    pushes2: &[Push<'_>],
-    output2: &mut [T],
-    scratch2: &mut [T],
-    notes2: &mut [Result<Receipt, Refusal>],
+    batch2: &mut Batch<'_, T>,
 ) -> (Ended<D>, Ended<E>)
-    ensures one { Ran (limit_at_width T.Element.WIDTH) pushes.now (new_state (D.ChunkDecoder.readings source) (D.ChunkDecoder.allowance source) output.old scratch.old) (ended_in D.ChunkDecoder.readings D.ChunkDecoder.allowance result.0 output.new scratch.new) notes.old notes.new result.0.made }
-    ensures other { Ran (limit_at_width T.Element.WIDTH) pushes2.now (new_state (E.ChunkDecoder.readings source2) (E.ChunkDecoder.allowance source2) output2.old scratch2.old) (ended_in E.ChunkDecoder.readings E.ChunkDecoder.allowance result.1 output2.new scratch2.new) notes2.old notes2.new result.1.made }
+    ensures one { Ran (limit_at_width T.Element.WIDTH) batch.old.pushes.now (start_of (D.ChunkDecoder.readings source) (D.ChunkDecoder.allowance source) batch.old) (end_of D.ChunkDecoder.readings D.ChunkDecoder.allowance result.0 batch.new) batch.old.notes.now batch.new.notes.now result.0.made }
+    ensures other { Ran (limit_at_width T.Element.WIDTH) batch2.old.pushes.now (start_of (E.ChunkDecoder.readings source2) (E.ChunkDecoder.allowance source2) batch2.old) (end_of E.ChunkDecoder.readings E.ChunkDecoder.allowance result.1 batch2.new) batch2.old.notes.now batch2.new.notes.now result.1.made }
     ensures firsts { (result.0.first ≡ D.ChunkDecoder.allowance source) × (result.1.first ≡ E.ChunkDecoder.allowance source2) }
-    ensures agreed { notes_fault (length notes.old) (length pushes.now) ≡ None → notes_fault (length notes2.old) (length pushes2.now) ≡ None → Alike (new_state (D.ChunkDecoder.readings source) (D.ChunkDecoder.allowance source) output.old scratch.old) (new_state (E.ChunkDecoder.readings source2) (E.ChunkDecoder.allowance source2) output2.old scratch2.old) → AllZip SamePick (formed_ones (new_state (D.ChunkDecoder.readings source) (D.ChunkDecoder.allowance source) output.old scratch.old) pushes.now) (formed_ones (new_state (E.ChunkDecoder.readings source2) (E.ChunkDecoder.allowance source2) output2.old scratch2.old) pushes2.now) → Agree (ended_in D.ChunkDecoder.readings D.ChunkDecoder.allowance result.0 output.new scratch.new) (ended_in E.ChunkDecoder.readings E.ChunkDecoder.allowance result.1 output2.new scratch2.new) pushes.now pushes2.now (take (length pushes.now) notes.new) (take (length pushes2.now) notes2.new) }
+    ensures agreed { notes_fault (length batch.old.notes.now) (length batch.old.pushes.now) ≡ None → notes_fault (length batch2.old.notes.now) (length batch2.old.pushes.now) ≡ None → Alike (start_of (D.ChunkDecoder.readings source) (D.ChunkDecoder.allowance source) batch.old) (start_of (E.ChunkDecoder.readings source2) (E.ChunkDecoder.allowance source2) batch2.old) → AllZip SamePick (formed_ones (start_of (D.ChunkDecoder.readings source) (D.ChunkDecoder.allowance source) batch.old) batch.old.pushes.now) (formed_ones (start_of (E.ChunkDecoder.readings source2) (E.ChunkDecoder.allowance source2) batch2.old) batch2.old.pushes.now) → Agree (end_of D.ChunkDecoder.readings D.ChunkDecoder.allowance result.0 batch.new) (end_of E.ChunkDecoder.readings E.ChunkDecoder.allowance result.1 batch2.new) batch.old.pushes.now batch2.old.pushes.now (take (length batch.old.pushes.now) batch.new.notes.now) (take (length batch2.old.pushes.now) batch2.new.notes.now) }
+    ensures kept { SamePlaces batch.old batch.new × SamePlaces batch2.old batch2.new }
 {
-    let one = run_pushes(source, pushes, output, scratch, notes);
-    let other = run_pushes(source2, pushes2, output2, scratch2, notes2);
+    let one = run_pushes(source, batch);
+    let other = run_pushes(source2, batch2);
     (one, other)
 }

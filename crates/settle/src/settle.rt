@@ -12,6 +12,7 @@ ghost use Rattle.settle.specs.Pushes.{answer, answer_to, fee as fee_under, grant
 
 use selection::{Item, Refusal, Selection, Window, check_len};
 use source::CHUNK;
+use std::fmt;
 
 /// A selection, and what is added to each of its positions.
 #[derive(Clone, Copy)]
@@ -25,6 +26,12 @@ pub struct Push<'a> {
 pub struct Receipt {
     pub count: u64,
     pub fee: u64,
+}
+
+impl fmt::Display for Receipt {
+    fn fmt<W: fmt::Write>(&self, f: &mut fmt::Formatter<W>) -> fmt::Result {
+        write!(f, "{} readings for {}", self.count, self.fee)
+    }
 }
 
 /// What a push is measured against.
