@@ -1,5 +1,6 @@
 -- What a door log says.
-use Rattle.std.specs.Prelude.{◌≡◌, ℕ, ◌<◌, cond, ◌&&◌, List, [], ◌∷◌, Some, None, Bool, count_by, length, slice_index_or, Option, Result, MatchResult, ◌==◌, nat_le, nat_lt}
+use Rattle.std.specs.Fmt.{decimal}
+use Rattle.std.specs.Prelude.{◌++◌, codes, ◌≡◌, ℕ, ◌<◌, cond, ◌&&◌, List, [], ◌∷◌, Some, None, Bool, count_by, length, slice_index_or, Option, Result, MatchResult, ◌==◌, nat_le, nat_lt}
 use Rattle.kernels.specs.declared.elements.Event.{Event}
 use Rattle.doors.specs.declared.door.Door.{Door}
 use Rattle.doors.specs.declared.door.Door.TheVariants.{Silent, Signal}
@@ -34,3 +35,11 @@ silent_among es = count_by is_silent es
 abbrev pub summed : List Event → Option Summary
 summed [] = None
 summed (e ∷ es) = Some (record { from = e.time; to = (slice_index_or (e ∷ es) (length es) e).time; silent = silent_among (e ∷ es) })
+
+-- what is printed of them
+abbrev pub door_text : Door → List ℕ
+door_text Silent = codes "no signal"
+door_text Signal = codes "signal"
+
+abbrev pub summary_text : Summary → List ℕ
+summary_text s = codes "second " ++ decimal s.from ++ codes " to second " ++ decimal s.to ++ codes ", " ++ decimal s.silent ++ codes " without a signal"

@@ -1,6 +1,7 @@
 //! What a door says, and the codes for it.
-ghost use Rattle.std.specs.Prelude.{◌≡◌};
-ghost use Rattle.doors.specs.Doors.{Decodes, code_of};
+ghost use Rattle.std.specs.Fmt.{decimal};
+ghost use Rattle.std.specs.Prelude.{◌≡◌, ◌++◌, codes, Some};
+ghost use Rattle.doors.specs.Doors.{Decodes, code_of, door_text};
 
 use std::fmt;
 
@@ -41,6 +42,8 @@ impl TryFrom<u32> for Door {
 }
 
 impl fmt::Display for Door {
+    ghost output = { λ door. Some (door_text door) };
+
     fn fmt<W: fmt::Write>(&self, f: &mut fmt::Formatter<W>) -> fmt::Result {
         f.write_str(match self {
             Door::Silent => "no signal",
@@ -50,6 +53,8 @@ impl fmt::Display for Door {
 }
 
 impl fmt::Display for UnknownCode {
+    ghost output = { λ code. Some (codes "code " ++ decimal code.0) };
+
     fn fmt<W: fmt::Write>(&self, f: &mut fmt::Formatter<W>) -> fmt::Result {
         write!(f, "code {}", self.0)
     }

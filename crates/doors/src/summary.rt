@@ -1,6 +1,6 @@
 //! A part of a log, in one line.
-ghost use Rattle.std.specs.Prelude.{◌≡◌};
-ghost use Rattle.doors.specs.Doors.{silent_among as silent_readings, summed};
+ghost use Rattle.std.specs.Prelude.{◌≡◌, Some};
+ghost use Rattle.doors.specs.Doors.{silent_among as silent_readings, summary_text, summed};
 
 use super::door::Door;
 use kernels::Event;
@@ -37,6 +37,8 @@ impl Summary {
 }
 
 impl fmt::Display for Summary {
+    ghost output = { λ summary. Some (summary_text summary) };
+
     fn fmt<W: fmt::Write>(&self, f: &mut fmt::Formatter<W>) -> fmt::Result {
         write!(
             f,
