@@ -27,7 +27,9 @@ fn show_answer(
     left: u64,
 ) -> anyhow::Result<()> {
     match answer {
-        Ok(receipt) => println!(rt; "{what}: ok, {receipt}, {left} left")?,
+        Ok(Receipt { count, fee }) => {
+            println!(rt; "{what}: ok, {count} readings for {fee}, {left} left")?;
+        }
         Err(refusal) => println!(rt; "{what}: no, {refusal}, {left} left")?,
     }
     Ok(())
@@ -145,7 +147,7 @@ fn show_notes(
 ) -> anyhow::Result<()> {
     for note in notes {
         match note {
-            Ok(receipt) => println!(rt; "{what}: ok, {receipt}")?,
+            Ok(Receipt { count, fee }) => println!(rt; "{what}: ok, {count} readings for {fee}")?,
             Err(refusal) => println!(rt; "{what}: no, {refusal}")?,
         }
     }

@@ -1,6 +1,5 @@
 -- What a push answers.
-use Rattle.std.specs.Fmt.{decimal}
-use Rattle.std.specs.Prelude.{ℕ, ◌+◌, ◌/◌, List, [], ◌∷◌, map, length, Option, Result, nat_le, nat_lt, ◌++◌, codes}
+use Rattle.std.specs.Prelude.{ℕ, ◌+◌, ◌/◌, List, [], ◌∷◌, map, length, Option, Result, nat_le, nat_lt}
 use Rattle.selection.specs.declared.refusals.Refusal.{Refusal}
 use Rattle.selection.specs.declared.refusals.Refusal.TheVariants.{Offset, Scratch, Output, Beyond, Spent}
 use Rattle.selection.specs.Refusals.{when, first, first_of, answered}
@@ -46,10 +45,6 @@ declined t ps = first_of (first (past_source t.chunks) ps ∷ grant_fault t (len
 -- the first condition against a push that holds, in their order
 abbrev pub refusal : Terms → Push → Option Refusal
 refusal t p = first_of (misformed t.scratch p ∷ declined t (places p) ∷ [])
-
--- what is printed of a receipt
-abbrev pub receipt_text : Receipt → List ℕ
-receipt_text r = decimal r.count ++ codes " readings for " ++ decimal r.fee
 
 abbrev pub receipt : Terms → List ℕ → Receipt
 receipt t ps = record { count = length ps; fee = fee t ps }

@@ -1,5 +1,5 @@
 //! What a push will answer, settled before anything is fetched.
-ghost use Rattle.std.specs.Prelude.{◌≡◌, ℕ, ◌+◌, ◌-◌, ◌*◌, ◌/◌, ◌^◌, ◌<◌, ◌≤◌, List, ◌++◌, map, length, Some, None};
+ghost use Rattle.std.specs.Prelude.{◌≡◌, ℕ, ◌+◌, ◌-◌, ◌*◌, ◌/◌, ◌^◌, ◌<◌, ◌≤◌, List, ◌++◌, map, length, None};
 ghost use Rattle.std.specs.List.{range_with_len, AllByRecursion};
 ghost use Rattle.selection.specs.declared.selections.Selection.TheVariants.{Bitmap, Indices, Runs};
 ghost use Rattle.selection.specs.Refusals.{answered, first};
@@ -8,11 +8,10 @@ ghost use Rattle.selection.specs.Items.{listed_fault, listed_positions};
 ghost use Rattle.settle.specs.Prices.{price};
 ghost use Rattle.settle.specs.Bounds.{boundary};
 ghost use Rattle.settle.specs.Tallies.{Tallied};
-ghost use Rattle.settle.specs.Pushes.{answer, answer_to, fee as fee_under, grant_fault, moved, past_source, receipt, receipt_text, room_fault};
+ghost use Rattle.settle.specs.Pushes.{answer, answer_to, fee as fee_under, grant_fault, moved, past_source, receipt, room_fault};
 
 use selection::{Item, Refusal, Selection, Window, check_len};
 use source::CHUNK;
-use std::fmt;
 
 /// A selection, and what is added to each of its positions.
 #[derive(Clone, Copy)]
@@ -26,14 +25,6 @@ pub struct Push<'a> {
 pub struct Receipt {
     pub count: u64,
     pub fee: u64,
-}
-
-impl fmt::Display for Receipt {
-    ghost output = { λ receipt. Some (receipt_text receipt) };
-
-    fn fmt<W: fmt::Write>(&self, f: &mut fmt::Formatter<W>) -> fmt::Result {
-        write!(f, "{} readings for {}", self.count, self.fee)
-    }
 }
 
 /// What a push is measured against.
