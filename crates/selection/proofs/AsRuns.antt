@@ -104,8 +104,3 @@ module _ (rs : Bor (List Run)) (n : ℕ) where
   pub runs_listed_positions : listed_positions n (map (λ r. r) rs.now) ≡ positions (Runs rs n)
   unfolding positions
   runs_listed_positions = ap (listed_positions n) (map-id rs.now)
-
--- two selections that say the same
-pub same_selection : (xs : Bor (List ℕ)) (rs : Bor (List Run)) (n : ℕ) → rs.now ≡ map single xs.now → (selection_fault (Runs rs n) ≡ selection_fault (Indices xs n)) × (positions (Runs rs n) ≡ positions (Indices xs n))
-unfolding selection_fault positions
-same_selection xs rs n is = (ap (listed_fault n) is ∙ indices_listed_fault xs n, ap (listed_positions n) is ∙ indices_listed_positions xs n)
