@@ -61,8 +61,8 @@ fn shift_all(indices: &[u64], up: u64, down: u64, out: &mut [u64])
     requires inside { AllByRecursion (Within up down 1024) indices.now }
     ensures { out.new ≡ splice out.old 0 (map (shifted up down) indices.now) }
 {
-    for k in 0..indices.len() {
-        out[k] = indices[k] + up - down;
+    for (k, index) in indices.iter().enumerate() {
+        out[k] = index + up - down;
     }
 }
 
@@ -122,8 +122,8 @@ fn fill_counting(out: &mut [u64], from: u64)
     requires { from + length out.old < 2 ^ 64 }
     ensures { out.new ≡ range_with_len from (length out.old) }
 {
-    for k in 0..out.len() {
-        out[k] = from + k as u64;
+    for (k, slot) in out.iter_mut().enumerate() {
+        *slot = from + k as u64;
     }
 }
 
