@@ -128,6 +128,7 @@ fn fill_counting(out: &mut [u64], from: u64)
 }
 
 /// Writes the places of runs within bounds, less `base`, to the first places of `out`.
+#[tactic(auto, using(crate::proofs::Spanning::span_ok, crate::proofs::Spanning::span_room))]
 fn spread_runs(runs: &[Run], offset: u64, lo: u64, hi: u64, base: u64, out: &mut [u64])
     requires runs { AllByRecursion (Spans offset lo hi base) runs.now }
     requires bound { hi < 2 ^ 63 }
@@ -145,6 +146,7 @@ fn spread_runs(runs: &[Run], offset: u64, lo: u64, hi: u64, base: u64, out: &mut
 
 /// Copies what stands in `src` at the places of runs within bounds, less `base`, to the first
 /// places of `dst`.
+#[tactic(auto, using(crate::proofs::Spanning::span_ok, crate::proofs::Spanning::span_room))]
 fn copy_runs<T: Copy>(
     src: &[T],
     runs: &[Run],

@@ -64,6 +64,7 @@ struct Part {
     next: usize,
 }
 
+#[tactic(auto, using(crate::proofs::Spanning::count_few, crate::proofs::Spanning::count_more, crate::proofs::Spanning::ends_ahead, crate::proofs::Spanning::runs_at))]
 /// The places of ascending runs, from run `from` and place `lo` on, that lie below `hi`.
 fn runs_below(runs: &[Run], from: usize, offset: u64, lo: u64, hi: u64) -> Part
     requires small { offset ≤ 1024 }
