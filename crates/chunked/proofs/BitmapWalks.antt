@@ -1,5 +1,5 @@
 -- How far a delivery has come on its walk over a bitmap.
-use Rattle.std.proofs.Common.{◌≡◌, ℕ, ◌+◌, ◌*◌, ◌<◌, ◌≤◌, Bool, List, length, None, sym, refl, ap, ◌∙◌, subst, ap₂, ⊎_elim, arith}
+use Rattle.std.proofs.Common.{◌≡◌, ℕ, ◌+◌, ◌<◌, ◌≤◌, Bool, List, length, None, sym, refl, ap, ◌∙◌, subst, ap₂, ⊎_elim, arith}
 use Rattle.std.specs.List.{between}
 use Rattle.std.proofs.lemmas.List.{length-map}
 use Rattle.std.proofs.lemmas.Bool.{cases_lt}
@@ -16,7 +16,7 @@ use Rattle.chunked.specs.Served.{Servable}
 use Rattle.chunked.specs.Deliveries.{Delivered, offers}
 use Rattle.chunked.proofs.Cuts.{Cut}
 use Rattle.chunked.proofs.Windows.{bitmap_cut, bitmap_part, kept_rises}
-use Rattle.chunked.proofs.Walks.{Walk, walk_end, walk_more, walk_servable, walk_start, walk_still}
+use Rattle.chunked.proofs.Walks.{Walk, walk_more, walk_servable, walk_start, walk_still}
 
 -- the places of the chunks before chunk c were served
 abbrev pub BitmapWalk : {D T : Type 0} → ℕ → (D → List T) → (D → ℕ) → Delivery D T → Delivery D T → ℕ → Window → ℕ → Type 0

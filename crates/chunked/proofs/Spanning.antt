@@ -3,7 +3,7 @@ use Rattle.std.proofs.Common.{◌≡◌, ℕ, zero, suc, ◌+◌, ◌-◌, ◌<�
 use borrow.Rule.Slice.PartMut.{put_mid}
 use Rattle.std.specs.List.{range_with_len, between, flat_map, AllByRecursion}
 use Rattle.std.proofs.lemmas.List.FromFn.{length-range_with_len}
-use Rattle.std.proofs.ByRecursion.{All-append, All-map, All-weaker}
+use Rattle.std.proofs.ByRecursion.{All-append, All-get_or, All-map, All-weaker}
 use Rattle.std.proofs.lemmas.List.{append_assoc, append-nil, drop-drop, length-append, map-append, take-append-drop, take_more, take_rest}
 use Rattle.std.proofs.lemmas.Bool.{cases_lt}
 use Rattle.std.proofs.lemmas.List.Edits.{between_more}
@@ -202,6 +202,14 @@ pub span_take_most : (offset lo hi : ℕ) (rs : List Run) (i : ℕ) → length (
 span_take_most offset lo hi rs i =
     let both : length (in_span offset lo hi rs) ≡ length (in_span offset lo hi (take i rs)) + length (in_span offset lo hi (drop i rs)) = ap (λ xs. length (in_span offset lo hi xs)) (sym (take-append-drop i rs)) ∙ ap length (span_append offset lo hi (take i rs) (drop i rs)) ∙ length-append (in_span offset lo hi (take i rs)) (in_span offset lo hi (drop i rs)) in
     omega arith
+
+-- the run at a place of a list that can be cut
+pub span_ok : (offset lo hi base : ℕ) (rs : List Run) (i : ℕ) → AllByRecursion (Spans offset lo hi base) rs → i < length rs → Spans offset lo hi base (get_or rs i no_run)
+span_ok offset lo hi base rs i h l = All-get_or (Spans offset lo hi base) rs i no_run l h
+
+-- there is room for its places after those of the runs before it
+pub span_room : (offset lo hi : ℕ) (rs : List Run) (i at room : ℕ) → i < length rs → at ≡ length (in_span offset lo hi (take i rs)) → length (in_span offset lo hi rs) ≤ room → at + (span_end offset hi (get_or rs i no_run) - span_start offset lo hi (get_or rs i no_run)) ≤ room
+span_room offset lo hi rs i at room l e h = let count = span_take_count offset lo hi rs i l in let most = span_take_most offset lo hi rs (i + 1) in omega arith
 
 -- numbers one after another, less a base
 pub counting_less : (base x n : ℕ) → base ≤ x → range_with_len (x - base) n ≡ map (shifted 0 base) (range_with_len x n)

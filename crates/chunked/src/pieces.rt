@@ -61,8 +61,8 @@ fn shift_all(indices: &[u64], up: u64, down: u64, out: &mut [u64])
     requires inside { AllByRecursion (Within up down 1024) indices.now }
     ensures { out.new ≡ splice out.old 0 (map (shifted up down) indices.now) }
 {
-    for k in 0..indices.len() {
-        out[k] = indices[k] + up - down;
+    for (k, index) in indices.iter().enumerate() {
+        out[k] = index + up - down;
     }
 }
 
@@ -122,12 +122,13 @@ fn fill_counting(out: &mut [u64], from: u64)
     requires { from + length out.old < 2 ^ 64 }
     ensures { out.new ≡ range_with_len from (length out.old) }
 {
-    for k in 0..out.len() {
-        out[k] = from + k as u64;
+    for (k, slot) in out.iter_mut().enumerate() {
+        *slot = from + k as u64;
     }
 }
 
 /// Writes the places of runs within bounds, less `base`, to the first places of `out`.
+#[tactic(auto, using(crate::proofs::Spanning::span_ok, crate::proofs::Spanning::span_room))]
 fn spread_runs(runs: &[Run], offset: u64, lo: u64, hi: u64, base: u64, out: &mut [u64])
     requires runs { AllByRecursion (Spans offset lo hi base) runs.now }
     requires bound { hi < 2 ^ 63 }
@@ -145,6 +146,7 @@ fn spread_runs(runs: &[Run], offset: u64, lo: u64, hi: u64, base: u64, out: &mut
 
 /// Copies what stands in `src` at the places of runs within bounds, less `base`, to the first
 /// places of `dst`.
+#[tactic(auto, using(crate::proofs::Spanning::span_ok, crate::proofs::Spanning::span_room))]
 fn copy_runs<T: Copy>(
     src: &[T],
     runs: &[Run],

@@ -45,19 +45,16 @@ fn fetch_indices<D: ChunkDecoder>(
     let _ = source.decode_indices(chunk, indices, &mut output[at..]);
 }
 
-/// The place of the first index from `from` on that is not below `bound`.
-fn end_below(indices: &[u64], from: usize, bound: u64) -> usize
-    requires { from ≤ length indices.now }
-    ensures within { (from ≤ result) × (result ≤ length indices.now) }
-    ensures below { (k : ℕ) → from ≤ k → k < result → slice_index indices.now k < bound }
+/// How many indices stand before the first that is not below `bound`.
+fn count_below(indices: &[u64], bound: u64) -> usize
+    ensures within { result ≤ length indices.now }
+    ensures below { (k : ℕ) → k < result → slice_index indices.now k < bound }
     ensures past { result < length indices.now → bound ≤ slice_index indices.now result }
 {
-    for k in from..indices.len() {
-        if indices[k] >= bound {
-            return k;
-        }
-    }
-    indices.len()
+    indices
+        .iter()
+        .position(|index| *index >= bound)
+        .unwrap_or(indices.len())
 }
 
 /// The part of some runs that lies below a bound: how many places, and the first run past it.
@@ -67,6 +64,7 @@ struct Part {
     next: usize,
 }
 
+#[tactic(auto, using(crate::proofs::Spanning::count_few, crate::proofs::Spanning::count_more, crate::proofs::Spanning::ends_ahead, crate::proofs::Spanning::runs_at))]
 /// The places of ascending runs, from run `from` and place `lo` on, that lie below `hi`.
 fn runs_below(runs: &[Run], from: usize, offset: u64, lo: u64, hi: u64) -> Part
     requires small { offset ≤ 1024 }
@@ -104,11 +102,11 @@ fn load_words(window: Window<'_>, from: u64, n: u64, words: &mut [u64]) -> u64
     ensures count { result ≡ length (mask_positions words.new n) }
 {
     let mut ones = 0;
-    for k in 0..words.len() {
+    for (k, slot) in words.iter_mut().enumerate() {
         let at = 64 * k as u64;
         let word = window.bits(from + at, n - at);
         ones += u64::from(word.count_ones());
-        words[k] = word;
+        *slot = word;
     }
     ones
 }
@@ -148,7 +146,6 @@ impl<'a, D: ChunkDecoder> Delivery<'a, D> {
     }
 
     /// Serves ascending indices chunk by chunk.
-    #[tactic(auto, using(crate::proofs::Cuts::below_limit))]
     fn serve_indices(&mut self, offset: u64, indices: &[u64])
         requires small { offset ≤ 1024 }
         requires rising { Rising 0 16777216 indices.now }
@@ -156,17 +153,18 @@ impl<'a, D: ChunkDecoder> Delivery<'a, D> {
         requires room { 1024 ≤ length self.old.scratch.now }
         ensures { Delivered (limit_at_width D.Item.Element.WIDTH) D.ChunkDecoder.readings D.ChunkDecoder.allowance self.old self.new (map (moved offset) indices.now) }
     {
-        let mut i = 0;
-        while i < indices.len() {
-            let chunk = (indices[i] + offset) / CHUNK;
-            let end = end_below(indices, i, (chunk + 1) * CHUNK - offset);
+        let mut rest = indices;
+        while let Some(first) = rest.first() {
+            let chunk = (*first + offset) / CHUNK;
+            let n = count_below(rest, (chunk + 1) * CHUNK - offset);
+            let (here, later) = rest.split_at(n);
             let piece = IndexPiece {
-                indices: &indices[i..end],
+                indices: here,
                 offset,
                 base: chunk * CHUNK,
             };
             self.serve_chunk(chunk, &piece);
-            i = end;
+            rest = later;
         }
     }
 

@@ -1,187 +1,30 @@
 use Rattle.std.proofs.Common.{◌≡◌, ℕ, ◌+◌, ◌-◌, ◌≤◌, ◌++◌, map, length, get_or, take, drop, sym, ap, ◌∙◌, ap₂, arith, rules}
 use Rattle.std.proofs.ByRecursion.{All-get_or, All-take}
-use Rattle.std.proofs.lemmas.List.{length-drop, length-map, map-append, take_all, take_rest}
+use Rattle.std.proofs.lemmas.List.{length-map, map-append, take_all}
 use Rattle.selection.specs.Selected.{no_run}
 use Rattle.kernels.specs.Moved.{gather, shifted, splice}
 use Rattle.chunked.specs.Spans.{Spans, in_span, span_end, span_start, spanned}
 use Rattle.kernels.proofs.Gathered.{gather_append, gather_counting, length_gather}
-use Rattle.chunked.proofs.Spanning.{counting_less, put_rest_more, span_inside, span_take_count, span_take_more, span_take_most}
+use Rattle.chunked.proofs.Spanning.{counting_less, put_rest_more, span_inside, span_room, span_take_count, span_take_more, span_take_most}
 use Rattle.chunked.proofs.pieces.copy_runs.Goals as goal
-
-pub cut_run-piece-requires : goal.cut_run-piece-requires
-cut_run-piece-requires g c =
-    let runs = c.args.runs.now in
-    let i = c.loop-run.run-index in
-    let offset = c.args.offset in
-    let lo = c.args.lo in
-    let hi = c.args.hi in
-    let r = get_or runs i no_run in
-    let here = c.loop-run-test.true in
-    let ok = All-get_or (Spans offset lo hi c.args.base) runs i no_run here c.requires.runs in
-    record { start = ok.«from»; «end» = ok.to }
-
-pub overflow_sub-n : goal.overflow_sub-n
-overflow_sub-n g c =
-    let runs = c.args.runs.now in
-    let i = c.loop-run.run-index in
-    let offset = c.args.offset in
-    let lo = c.args.lo in
-    let hi = c.args.hi in
-    let r = get_or runs i no_run in
-    let here = c.loop-run-test.true in
-    let ok = All-get_or (Spans offset lo hi c.args.base) runs i no_run here c.requires.runs in
-    let a : c.cut_run-piece.result.start ≡ span_start offset lo hi r = ap (λ x. x.start) c.cut_run-piece.ensures in
-    let b : c.cut_run-piece.result.«end» ≡ span_end offset hi r = ap (λ x. x.«end») c.cut_run-piece.ensures in
-    let ordered = ok.ordered in
-    let above = ok.above in
-    let count = span_take_count offset lo hi runs i here in
-    let most = span_take_most offset lo hi runs (i + 1) in
-    let room = c.requires.room in
-    let bound = c.requires.bound in
-    let inv = c.loop-run.invariant.0 in
-    let keep = c.loop-run.auto.dst in
-    let fits : c.loop-run.at + (c.cut_run-piece.result.«end» - c.cut_run-piece.result.start) ≤ length c.args.dst.now = omega arith in
-    search rules
-
-pub overflow_sub-piece : goal.overflow_sub-piece
-overflow_sub-piece g c =
-    let runs = c.args.runs.now in
-    let i = c.loop-run.run-index in
-    let offset = c.args.offset in
-    let lo = c.args.lo in
-    let hi = c.args.hi in
-    let r = get_or runs i no_run in
-    let here = c.loop-run-test.true in
-    let ok = All-get_or (Spans offset lo hi c.args.base) runs i no_run here c.requires.runs in
-    let a : c.cut_run-piece.result.start ≡ span_start offset lo hi r = ap (λ x. x.start) c.cut_run-piece.ensures in
-    let b : c.cut_run-piece.result.«end» ≡ span_end offset hi r = ap (λ x. x.«end») c.cut_run-piece.ensures in
-    let ordered = ok.ordered in
-    let above = ok.above in
-    let count = span_take_count offset lo hi runs i here in
-    let most = span_take_most offset lo hi runs (i + 1) in
-    let room = c.requires.room in
-    let bound = c.requires.bound in
-    let inv = c.loop-run.invariant.0 in
-    let keep = c.loop-run.auto.dst in
-    let fits : c.loop-run.at + (c.cut_run-piece.result.«end» - c.cut_run-piece.result.start) ≤ length c.args.dst.now = omega arith in
-    search rules
 
 pub offset_bounds-dst-at : goal.offset_bounds-dst-at
 offset_bounds-dst-at g c =
-    let runs = c.args.runs.now in
-    let i = c.loop-run.run-index in
-    let offset = c.args.offset in
-    let lo = c.args.lo in
-    let hi = c.args.hi in
-    let r = get_or runs i no_run in
-    let here = c.loop-run-test.true in
-    let ok = All-get_or (Spans offset lo hi c.args.base) runs i no_run here c.requires.runs in
-    let a : c.cut_run-piece.result.start ≡ span_start offset lo hi r = ap (λ x. x.start) c.cut_run-piece.ensures in
-    let b : c.cut_run-piece.result.«end» ≡ span_end offset hi r = ap (λ x. x.«end») c.cut_run-piece.ensures in
-    let ordered = ok.ordered in
-    let above = ok.above in
-    let count = span_take_count offset lo hi runs i here in
-    let most = span_take_most offset lo hi runs (i + 1) in
-    let room = c.requires.room in
-    let bound = c.requires.bound in
-    let inv = c.loop-run.invariant.0 in
-    let keep = c.loop-run.auto.dst in
-    let fits : c.loop-run.at + (c.cut_run-piece.result.«end» - c.cut_run-piece.result.start) ≤ length c.args.dst.now = omega arith in
+    let fits = span_room c.args.offset c.args.lo c.args.hi c.args.runs.now c.loop-run.run-index c.loop-run.at (length c.args.dst.now) c.loop-run-test.true c.loop-run.invariant.0 c.requires.room in
+    let within : c.loop-run.at ≤ length c.args.dst.now = omega arith in
     search rules
 
 pub slice_bounds-copy_part-count : goal.slice_bounds-copy_part-count
 slice_bounds-copy_part-count g c =
-    let runs = c.args.runs.now in
-    let i = c.loop-run.run-index in
-    let offset = c.args.offset in
-    let lo = c.args.lo in
-    let hi = c.args.hi in
-    let r = get_or runs i no_run in
-    let here = c.loop-run-test.true in
-    let ok = All-get_or (Spans offset lo hi c.args.base) runs i no_run here c.requires.runs in
-    let a : c.cut_run-piece.result.start ≡ span_start offset lo hi r = ap (λ x. x.start) c.cut_run-piece.ensures in
-    let b : c.cut_run-piece.result.«end» ≡ span_end offset hi r = ap (λ x. x.«end») c.cut_run-piece.ensures in
-    let ordered = ok.ordered in
-    let above = ok.above in
-    let count = span_take_count offset lo hi runs i here in
-    let most = span_take_most offset lo hi runs (i + 1) in
-    let room = c.requires.room in
-    let bound = c.requires.bound in
-    let inv = c.loop-run.invariant.0 in
-    let keep = c.loop-run.auto.dst in
-    let fits : c.loop-run.at + (c.cut_run-piece.result.«end» - c.cut_run-piece.result.start) ≤ length c.args.dst.now = omega arith in
+    let fits = span_room c.args.offset c.args.lo c.args.hi c.args.runs.now c.loop-run.run-index c.loop-run.at (length c.args.dst.now) c.loop-run-test.true c.loop-run.invariant.0 c.requires.room in
+    let within : c.loop-run.at ≤ length c.args.dst.now = omega arith in
     search rules
 
 pub slice_bounds-copy_part-start : goal.slice_bounds-copy_part-start
 slice_bounds-copy_part-start g c =
-    let runs = c.args.runs.now in
-    let i = c.loop-run.run-index in
-    let offset = c.args.offset in
-    let lo = c.args.lo in
-    let hi = c.args.hi in
-    let r = get_or runs i no_run in
-    let here = c.loop-run-test.true in
-    let ok = All-get_or (Spans offset lo hi c.args.base) runs i no_run here c.requires.runs in
-    let a : c.cut_run-piece.result.start ≡ span_start offset lo hi r = ap (λ x. x.start) c.cut_run-piece.ensures in
-    let b : c.cut_run-piece.result.«end» ≡ span_end offset hi r = ap (λ x. x.«end») c.cut_run-piece.ensures in
-    let ordered = ok.ordered in
-    let above = ok.above in
-    let count = span_take_count offset lo hi runs i here in
-    let most = span_take_most offset lo hi runs (i + 1) in
-    let room = c.requires.room in
-    let bound = c.requires.bound in
-    let inv = c.loop-run.invariant.0 in
-    let keep = c.loop-run.auto.dst in
-    let fits : c.loop-run.at + (c.cut_run-piece.result.«end» - c.cut_run-piece.result.start) ≤ length c.args.dst.now = omega arith in
+    let fits = span_room c.args.offset c.args.lo c.args.hi c.args.runs.now c.loop-run.run-index c.loop-run.at (length c.args.dst.now) c.loop-run-test.true c.loop-run.invariant.0 c.requires.room in
+    let within : c.loop-run.at ≤ length c.args.dst.now = omega arith in
     search rules
-
-pub overflow_add-at : goal.overflow_add-at
-overflow_add-at g c =
-    let runs = c.args.runs.now in
-    let i = c.loop-run.run-index in
-    let offset = c.args.offset in
-    let lo = c.args.lo in
-    let hi = c.args.hi in
-    let r = get_or runs i no_run in
-    let here = c.loop-run-test.true in
-    let ok = All-get_or (Spans offset lo hi c.args.base) runs i no_run here c.requires.runs in
-    let a : c.cut_run-piece.result.start ≡ span_start offset lo hi r = ap (λ x. x.start) c.cut_run-piece.ensures in
-    let b : c.cut_run-piece.result.«end» ≡ span_end offset hi r = ap (λ x. x.«end») c.cut_run-piece.ensures in
-    let ordered = ok.ordered in
-    let above = ok.above in
-    let count = span_take_count offset lo hi runs i here in
-    let most = span_take_most offset lo hi runs (i + 1) in
-    let room = c.requires.room in
-    let bound = c.requires.bound in
-    let inv = c.loop-run.invariant.0 in
-    let keep = c.loop-run.auto.dst in
-    let fits : c.loop-run.at + (c.cut_run-piece.result.«end» - c.cut_run-piece.result.start) ≤ length c.args.dst.now = omega arith in
-    search rules
-
-pub copy_part-requires : goal.copy_part-requires
-copy_part-requires g c =
-    let runs = c.args.runs.now in
-    let i = c.loop-run.run-index in
-    let offset = c.args.offset in
-    let lo = c.args.lo in
-    let hi = c.args.hi in
-    let r = get_or runs i no_run in
-    let here = c.loop-run-test.true in
-    let ok = All-get_or (Spans offset lo hi c.args.base) runs i no_run here c.requires.runs in
-    let a : c.cut_run-piece.result.start ≡ span_start offset lo hi r = ap (λ x. x.start) c.cut_run-piece.ensures in
-    let b : c.cut_run-piece.result.«end» ≡ span_end offset hi r = ap (λ x. x.«end») c.cut_run-piece.ensures in
-    let ordered = ok.ordered in
-    let above = ok.above in
-    let count = span_take_count offset lo hi runs i here in
-    let most = span_take_most offset lo hi runs (i + 1) in
-    let room = c.requires.room in
-    let bound = c.requires.bound in
-    let inv = c.loop-run.invariant.0 in
-    let keep = c.loop-run.auto.dst in
-    let fits : c.loop-run.at + (c.cut_run-piece.result.«end» - c.cut_run-piece.result.start) ≤ length c.args.dst.now = omega arith in
-    let rest = ap length (take_rest c.loop-run.dst c.loop-run.at) ∙ length-drop c.loop-run.at c.loop-run.dst in
-    let wide = c.requires.inside in
-    record { room = omega arith; inside = omega arith }
 
 pub loop-run-preserved : goal.loop-run-preserved
 loop-run-preserved g c =

@@ -8,12 +8,6 @@ use Rattle.chunked.specs.Spans.{EndsBy, in_span}
 use Rattle.chunked.proofs.Spanning.{count_few, count_more, ends_ahead, runs_at, span_stops}
 use Rattle.chunked.proofs.serve.runs_below.Goals as goal
 
-pub cut_run-piece-requires : goal.cut_run-piece-requires
-cut_run-piece-requires c =
-    let h = runs_at 0 16777216 c.args.runs.now c.loop-next.next c.requires.rising c.loop-next-test.true in
-    let small = c.requires.small in
-    record { start = omega arith; «end» = omega arith }
-
 pub overflow_sub-count : goal.overflow_sub-count
 overflow_sub-count c =
     let runs = c.args.runs.now in
@@ -47,13 +41,6 @@ overflow_add-count c =
     let few = count_few offset lo hi runs from i c.requires.rising order here in
     let inv = c.loop-next.invariant.0 in
     let fits : c.loop-next.count + (c.cut_run-piece.result.«end» - c.cut_run-piece.result.start) < 2 ^ 64 = omega arith in
-    search rules
-
-pub overflow_add-run : goal.overflow_add-run
-overflow_add-run c =
-    let h = runs_at 0 16777216 c.args.runs.now c.loop-next.next c.requires.rising c.loop-next-test.true in
-    let small = c.requires.small in
-    let fits : (get_or c.args.runs.now c.loop-next.next no_run).«end» + c.args.offset < 2 ^ 64 = omega arith in
     search rules
 
 pub returns-then-run-offset : goal.returns-then-run-offset

@@ -1,5 +1,4 @@
-use Rattle.std.proofs.Common.{◌≡◌, ◌+◌, ◌-◌, map, length, take, drop, ap, ◌∙◌, arith}
-use Rattle.std.proofs.lemmas.List.{length-drop, length-take}
+use Rattle.std.proofs.Common.{◌≡◌, ◌+◌, ◌-◌, map, take, drop, ap, ◌∙◌, arith}
 use Rattle.kernels.specs.Masks.{compacted, selected_by}
 use Rattle.kernels.specs.Moved.{gather, shifted, splice}
 use Rattle.kernels.proofs.Gathered.{gather_slice}

@@ -1,4 +1,4 @@
-use Rattle.std.proofs.Common.{◌≤◌, ◌+◌, ◌-◌, ◌*◌, refl, sym, map, length, ap, ◌∙◌, subst, arith}
+use Rattle.std.proofs.Common.{refl, sym, map, length, ap, ◌∙◌, subst, arith}
 use Rattle.std.proofs.lemmas.List.{length-map}
 use Rattle.selection.specs.Selected.{window_bit}
 use Rattle.kernels.specs.Moved.{limit_at_width}

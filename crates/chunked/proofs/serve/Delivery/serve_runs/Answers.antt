@@ -1,7 +1,7 @@
-use Rattle.std.proofs.Common.{◌+◌, ◌*◌, ◌/◌, ◌^◌, ◌<◌, get_or, ap, arith, rules}
+use Rattle.std.proofs.Common.{◌+◌, ◌/◌, ◌^◌, ◌<◌, get_or, ap, arith, rules}
 use Rattle.selection.specs.Selected.{no_run}
 use Rattle.kernels.specs.Moved.{limit_at_width}
-use Rattle.chunked.proofs.RunWalks.{run_bound, run_end, run_start, run_step}
+use Rattle.chunked.proofs.RunWalks.{run_bound, run_start, run_step}
 use Rattle.chunked.proofs.serve.Delivery.serve_runs.Goals as goal
 
 pub loop-next-init : goal.loop-next-init
