@@ -1,7 +1,7 @@
 use Rattle.std.proofs.Common.{◌+◌, ◌^◌, ◌<◌, [], ◌∷◌, length, drop, sym, ap, ◌∙◌, arith, rules}
 use Rattle.std.proofs.lemmas.List.{drop_all}
 use Rattle.kernels.specs.Masks.{set_bits}
-use Rattle.kernels.proofs.Putting.{left_all, left_done, left_first, left_same, left_small, left_turn}
+use Rattle.kernels.proofs.Putting.{left_done, left_first, left_same, left_small, left_turn}
 use Rattle.kernels.proofs.Rows.{length_row, row_items, row_told}
 use Rattle.kernels.proofs.byte_compress.put_row.Goals as goal
 
@@ -10,9 +10,6 @@ bounds-row-8 g c = let e = ap length c.row_at-row.ensures ∙ length_row c.args.
 
 pub slice_bounds-place-items-end : goal.slice_bounds-place-items-end
 slice_bounds-place-items-end g c = sym (row_items c.args.byte 0 c.from.result c.row_at-row.result.now c.row_at-row.ensures c.from.ensures).0
-
-pub loop-place-init : goal.loop-place-init
-loop-place-init g c = left_all c.requires.laws c.args.target.now (set_bits 8 c.args.byte c.args.base) c.requires.able
 
 pub overflow_add-base : goal.overflow_add-base
 overflow_add-base g c =

@@ -1,4 +1,4 @@
-use Rattle.std.proofs.Common.{◌-◌, ◌^◌, ◌<◌, arith, rules}
+use Rattle.std.proofs.Common.{◌-◌, ◌^◌, ◌<◌, arith}
 use Rattle.std.proofs.ByRecursion.{All-weaker}
 use Rattle.kernels.specs.Masks.{mask_len, selected_by}
 use Rattle.kernels.proofs.Masked.{selected_inside}
@@ -15,9 +15,3 @@ put_selected-requires-clause-able c =
     let fits = c.requires.fits in
     let room = c.requires.room in
     record { inside = All-weaker (λ p. p < n) (λ p. p < 2 ^ 64 - 1 - c.args.base) (λ p h. omega arith) (selected_by bits) (selected_inside bits n c.requires.mask); room = omega arith }
-
-pub returns-clause-written : goal.returns-clause-written
-returns-clause-written c =
-    let same = c.put_selected.ensures.same in
-    let places = c.put_selected.ensures.places in
-    search rules

@@ -1,11 +1,8 @@
-use Rattle.std.proofs.Common.{◌≡◌, ◌+◌, ◌-◌, ◌*◌, ◌/◌, ◌^◌, [], get_or, ap, ap₂, ◌∙◌, arith}
+use Rattle.std.proofs.Common.{◌≡◌, ◌+◌, ◌-◌, ◌*◌, ◌/◌, ◌^◌, [], get_or, ap, ◌∙◌, arith}
 use Rattle.kernels.specs.Masks.{set_bits}
-use Rattle.kernels.proofs.Putting.{left_all, left_done, left_first, left_same, left_turn}
+use Rattle.kernels.proofs.Putting.{left_done, left_first, left_same, left_turn}
 use Rattle.kernels.proofs.SetBits.{bits_bytes, bits_none}
 use Rattle.kernels.proofs.byte_compress.ByTableWordStep.put_word.Goals as goal
-
-pub loop-b-init : goal.loop-b-init
-loop-b-init g c = left_same _ (let a : c.args.word ≡ c.args.word / 2 ^ (8 * 0) = omega arith in let b : c.args.base ≡ c.args.base + 8 * 0 = omega arith in ap₂ (set_bits 64) a b) (left_all c.requires.laws c.args.target.now (set_bits 64 c.args.word c.args.base) c.requires.able)
 
 pub put_byte-requires-clause-able : goal.put_byte-requires-clause-able
 put_byte-requires-clause-able g c =

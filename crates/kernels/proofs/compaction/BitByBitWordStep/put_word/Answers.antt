@@ -1,6 +1,6 @@
-use Rattle.std.proofs.Common.{◌+◌, ◌^◌, ◌<◌, [], ◌∷◌, subst, sym, ap, arith, rules}
+use Rattle.std.proofs.Common.{◌+◌, ◌^◌, ◌<◌, [], ◌∷◌, subst, sym, arith, rules}
 use Rattle.kernels.specs.Masks.{set_bits}
-use Rattle.kernels.proofs.Putting.{left_all, left_done, left_first, left_same, left_small, left_turn}
+use Rattle.kernels.proofs.Putting.{left_done, left_first, left_same, left_small, left_turn}
 use Rattle.kernels.proofs.SetBits.{bits_next, bits_over}
 use Rattle.kernels.proofs.Walked.{full_bits}
 use Rattle.kernels.proofs.compaction.BitByBitWordStep.put_word.Goals as goal
@@ -10,9 +10,6 @@ put_run-requires-clause-able g c = subst (g.P.Target.can c.args.target.now) (ful
 
 pub returns-then-word-eq18446744073709551615 : goal.returns-then-word-eq18446744073709551615
 returns-then-word-eq18446744073709551615 g c = subst (λ ps. g.P.Target.took c.args.target.now ps c.put_run.new.self) (sym (full_bits 64 c.args.word c.args.base c.if-word-eq18446744073709551615.true)) c.put_run.ensures
-
-pub loop-place-init : goal.loop-place-init
-loop-place-init g c = (tt, tt, left_same _ (ap (λ ones. set_bits 64 ones.0 c.args.base) (sym c.into_iter-place-iterator.ensures.into_iter_gives)) (left_all c.requires.laws c.args.target.now (set_bits 64 c.args.word c.args.base) c.requires.able))
 
 pub overflow_add-base : goal.overflow_add-base
 overflow_add-base g c =

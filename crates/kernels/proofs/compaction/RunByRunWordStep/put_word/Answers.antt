@@ -3,14 +3,11 @@ use lib.Count.{count_trailing_zeros}
 use Rattle.std.specs.List.{range_with_len}
 use Rattle.kernels.specs.Masks.{set_bits}
 use Rattle.kernels.proofs.Masked.{all_parts}
-use Rattle.kernels.proofs.Putting.{left_all, left_done, left_first, left_same, left_small, left_turn}
+use Rattle.kernels.proofs.Putting.{left_done, left_first, left_same, left_small, left_turn}
 use Rattle.kernels.proofs.Runs.{first_run}
 use Rattle.kernels.proofs.SetBits.{counting_inside, no_bits}
 use Rattle.kernels.proofs.Walked.{walk_inside}
 use Rattle.kernels.proofs.compaction.RunByRunWordStep.put_word.Goals as goal
-
-pub loop-w-init : goal.loop-w-init
-loop-w-init g c = let h : c.args.word < 2 ^ 64 = search rules in (h, left_all c.requires.laws c.args.target.now (set_bits 64 c.args.word c.args.base) c.requires.able)
 
 pub overflow_add-from : goal.overflow_add-from
 overflow_add-from g c =

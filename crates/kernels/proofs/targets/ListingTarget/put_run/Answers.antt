@@ -1,6 +1,6 @@
 use Rattle.std.proofs.Common.{◌≡◌, suc, ◌+◌, ◌-◌, ◌^◌, ◌<◌, [], ◌∷◌, ap, arith, rules}
 use Rattle.std.specs.List.{range_with_len}
-use Rattle.kernels.proofs.Putting.{left_all, left_done, left_first, left_same, left_turn}
+use Rattle.kernels.proofs.Putting.{left_same, left_turn}
 use Rattle.kernels.proofs.Sequences.{lists_follow}
 use Rattle.kernels.proofs.SetBits.{counting_inside}
 use Rattle.kernels.proofs.targets.ListingTarget.put_run.Goals as goal
@@ -11,24 +11,9 @@ overflow_add-place-end c =
     let fits : c.args.from + c.args.n < 2 ^ 64 = omega arith in
     search rules
 
-pub loop-place-init : goal.loop-place-init
-loop-place-init c = let n : c.args.n ≡ c.args.from + c.args.n - c.args.from = omega arith in left_same _ (ap (range_with_len c.args.from) n) (left_all lists_follow c.args.self.now (range_with_len c.args.from c.args.n) c.requires.able)
-
-pub put-requires : goal.put-requires
-put-requires c =
-    let p = c.loop-place.place in
-    let rest = range_with_len (p + 1) (c.args.from + c.args.n - (p + 1)) in
-    let more : c.args.from + c.args.n - p ≡ suc (c.args.from + c.args.n - (p + 1)) = omega arith in
-    left_first lists_follow (p ∷ []) rest (left_same (p ∷ rest) (ap (range_with_len p) more) c.loop-place.invariant)
-
 pub loop-place-preserved : goal.loop-place-preserved
 loop-place-preserved c =
     let p = c.loop-place.place in
     let rest = range_with_len (p + 1) (c.args.from + c.args.n - (p + 1)) in
     let more : c.args.from + c.args.n - p ≡ suc (c.args.from + c.args.n - (p + 1)) = omega arith in
     left_turn lists_follow (p ∷ []) rest c.put.new.self c.requires.able (left_same (p ∷ rest) (ap (range_with_len p) more) c.loop-place.invariant) c.put.ensures
-
-pub returns : goal.returns
-returns c =
-    let none : c.args.from + c.args.n - c.loop-place.place ≡ 0 = omega arith in
-    left_done (left_same [] (ap (range_with_len c.loop-place.place) none) c.loop-place.invariant)

@@ -5,11 +5,8 @@ use Rattle.kernels.proofs.Gathered.{gather_counting}
 use Rattle.kernels.proofs.Rises.{counting_down}
 use Rattle.kernels.proofs.targets.MovingTarget.put_run.Goals as goal
 
-pub move_block-requires : goal.move_block-requires
-move_block-requires g c =
-    let s = c.args.self.now in
-    let h = counting_down s.at (length s.values.now) c.args.from c.args.n c.requires.some c.requires.able.rises in
-    record { down = h.0; inside = h.1 }
+pub move_block-requires-clause-inside : goal.move_block-requires-clause-inside
+move_block-requires-clause-inside g c = let s = c.args.self.now in (counting_down s.at (length s.values.now) c.args.from c.args.n c.requires.some c.requires.able.rises).1
 
 pub overflow_add-self : goal.overflow_add-self
 overflow_add-self g c =
