@@ -1,4 +1,5 @@
 pub mod Moved
 pub mod Masks
-pub mod Sinks
 pub mod Words
+pub mod Ordered
+pub mod Sinks

@@ -4,7 +4,7 @@ ghost use Rattle.kernels.specs.Masks.{set_bits};
 
 /// The places of the set bits of a word, the lowest first.
 #[derive(Drop)]
-pub struct Ones(pub u64);
+pub(crate) struct Ones(pub(crate) u64);
 
 impl Iterator for Ones {
     type Item = u32;

@@ -101,3 +101,14 @@ pub fn copy_to<T: Copy>(src: &[T], from: usize, n: usize, dst: &mut [T], pos: us
 {
     dst[pos..pos + n].copy_from_slice(&src[from..from + n]);
 }
+
+/// Moves `n` elements down to a place, where they do not stand there already.
+pub(crate) fn move_block<T: Copy>(values: &mut [T], from: usize, n: usize, to: usize)
+    requires down { to ≤ from }
+    requires inside { from + n ≤ length values.old }
+    ensures { values.new ≡ splice values.old to (take n (drop from values.old)) }
+{
+    if to != from {
+        values.copy_within(from..from + n, to);
+    }
+}

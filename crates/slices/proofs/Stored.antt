@@ -43,10 +43,6 @@ low_above (suc n) y x =
 pub low_mod : (n x : ℕ) → low_bytes n (x % 2 ^ (8 * n)) ≡ low_bytes n x
 low_mod n x = sym (low_above n (x / 2 ^ (8 * n)) (x % 2 ^ (8 * n))) ∙ ap (low_bytes n) (split x (8 * n))
 
--- one byte more
-pub low_more : (n x : ℕ) → low_bytes (n + 1) x ≡ low_bytes n x ++ (x / 2 ^ (8 * n) % 256 ∷ [])
-low_more n x = low_split n 1 x
-
 pub low_take : (n k x : ℕ) → n ≤ k → take n (low_bytes k x) ≡ low_bytes n x
 low_take n k x h =
     let m : ℕ = k - n in

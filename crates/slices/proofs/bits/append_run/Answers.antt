@@ -1,19 +1,12 @@
-use Rattle.std.proofs.Common.{◌≡◌, ℕ, ◌+◌, ◌-◌, ◌*◌, ◌<◌, [], ◌++◌, map, sym, ap, subst, ap₂, arith}
+use Rattle.std.proofs.Common.{◌≡◌, ℕ, ◌+◌, ◌-◌, ◌*◌, ◌<◌, [], ◌++◌, map, sym, ap, subst, arith}
 use Rattle.std.specs.List.{range_with_len}
 use Rattle.std.proofs.lemmas.List.FromFn.{length-map-range_with_len}
 use Rattle.std.proofs.lemmas.List.{length-map}
 use Rattle.selection.specs.Selected.{range, window_bit}
 use Rattle.slices.specs.Accumulated.{Room}
-use Rattle.slices.proofs.Stored.{going_done, going_room, going_same, going_start, going_turn}
+use Rattle.slices.proofs.Stored.{going_done, going_room, going_same, going_turn}
 use Rattle.slices.proofs.Taken.{packed_window, run_taken}
 use Rattle.slices.proofs.bits.append_run.Goals as goal
-
-pub loop-k-init : goal.loop-k-init
-loop-k-init c =
-    let r = c.args.run in
-    let a : r.start + 64 * 0 ≡ r.start = omega arith in
-    let b : r.«end» - r.start - 64 * 0 ≡ r.«end» - r.start = omega arith in
-    going_start _ _ c.args.acc.now c.requires.room.fill (ap₂ (λ x n. map (window_bit c.args.source) (range_with_len x n)) a b)
 
 pub append-requires : goal.append-requires
 append-requires c =

@@ -1,15 +1,12 @@
-use Rattle.std.proofs.Common.{◌+◌, [], ◌++◌, map, get_or, drop, sym, refl, ap, subst}
+use Rattle.std.proofs.Common.{◌+◌, ◌++◌, map, get_or, drop, sym, subst}
 use Rattle.std.specs.List.{flat_map}
-use Rattle.std.proofs.lemmas.List.{drop_all, length-map}
+use Rattle.std.proofs.lemmas.List.{length-map}
 use Rattle.selection.specs.Selected.{no_run, range, window_bit}
 use Rattle.slices.specs.Accumulated.{Room}
-use Rattle.slices.proofs.Stored.{going_done, going_room, going_same, going_start, going_turn}
+use Rattle.slices.proofs.Stored.{going_room, going_same, going_turn}
 use Rattle.slices.proofs.Formed.{run_at}
 use Rattle.slices.proofs.Taken.{runs_taken}
 use Rattle.slices.proofs.bits.append_runs.Goals as goal
-
-pub loop-run-init : goal.loop-run-init
-loop-run-init c = going_start _ _ c.args.acc.now c.requires.room.fill refl
 
 pub append_run-requires : goal.append_run-requires
 append_run-requires c =
@@ -34,6 +31,3 @@ loop-run-preserved c =
     let rest = map (window_bit s) (flat_map range (drop (k + 1) rs)) in
     let inv = going_same (xs ++ rest) (runs_taken (window_bit s) rs k c.loop-run-test.true) c.loop-run.invariant in
     going_turn xs rest c.append_run.new.acc inv c.append_run.ensures
-
-pub returns : goal.returns
-returns c = going_done (going_same [] (ap (λ rs. map (window_bit c.args.source) (flat_map range rs)) (drop_all c.loop-run.run-index c.args.runs.now c.loop-run-test.false)) c.loop-run.invariant)

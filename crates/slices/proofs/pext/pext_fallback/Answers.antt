@@ -11,13 +11,6 @@ loop-b-init c =
     let e = bits_none c.args.mask 0 in
     (sym (ap (λ ps. packed (map (bit_of c.args.src) ps)) e), sym (ap length e))
 
-pub overflow_cast-all : goal.overflow_cast-all
-overflow_cast-all c =
-    let h = set_short (8 * c.loop-b.b) c.args.mask 0 in
-    let e = c.loop-b.invariant.1 in
-    let fits : c.loop-b.done < 2 ^ 64 = omega arith in
-    search rules
-
 pub overflow_shl-all : goal.overflow_shl-all
 overflow_shl-all c =
     let h = set_short (8 * c.loop-b.b) c.args.mask 0 in
