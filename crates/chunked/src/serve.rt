@@ -4,9 +4,9 @@ ghost use Rattle.std.specs.List.{range_with_len, between, flat_map, AllByRecursi
 ghost use Rattle.selection.specs.Selected.{Rising, RunsRise, no_run, range, selection_fault, window_bit, window_from, window_positions};
 ghost use Rattle.kernels.specs.Masks.{Covers, mask_positions};
 ghost use Rattle.kernels.specs.Moved.{gather, limit_at_width, splice};
-ghost use Rattle.settle.specs.Pushes.{declined, moved, places};
+ghost use Rattle.settle.specs.Pushes.{moved, places};
 ghost use Rattle.settle.specs.Bounds.{kept_between_places};
-ghost use Rattle.chunked.specs.Deliveries.{Delivered, offers};
+ghost use Rattle.chunked.specs.Deliveries.{Delivered, Granted, offers};
 ghost use Rattle.chunked.specs.Served.{Servable};
 ghost use Rattle.chunked.specs.Spans.{EndsBy, in_span};
 ghost use Rattle.source.specs.Fetched.{fetch_fault, holding, place_in, whole_chunk};
@@ -149,8 +149,7 @@ impl<'a, D: ChunkDecoder> Delivery<'a, D> {
     fn serve_indices(&mut self, offset: u64, indices: &[u64])
         requires small { offset ≤ 1024 }
         requires rising { Rising 0 16777216 indices.now }
-        requires granted { declined (offers (limit_at_width D.Item.Element.WIDTH) D.ChunkDecoder.readings D.ChunkDecoder.allowance self.old) (map (moved offset) indices.now) ≡ None }
-        requires room { 1024 ≤ length self.old.scratch.now }
+        requires granted { Granted (limit_at_width D.Item.Element.WIDTH) D.ChunkDecoder.readings D.ChunkDecoder.allowance self.old (map (moved offset) indices.now) }
         ensures { Delivered (limit_at_width D.Item.Element.WIDTH) D.ChunkDecoder.readings D.ChunkDecoder.allowance self.old self.new (map (moved offset) indices.now) }
     {
         let mut rest = indices;
@@ -173,8 +172,7 @@ impl<'a, D: ChunkDecoder> Delivery<'a, D> {
     fn serve_runs(&mut self, offset: u64, runs: &[Run])
         requires small { offset ≤ 1024 }
         requires rising { RunsRise 0 16777216 runs.now }
-        requires granted { declined (offers (limit_at_width D.Item.Element.WIDTH) D.ChunkDecoder.readings D.ChunkDecoder.allowance self.old) (map (moved offset) (flat_map range runs.now)) ≡ None }
-        requires room { 1024 ≤ length self.old.scratch.now }
+        requires granted { Granted (limit_at_width D.Item.Element.WIDTH) D.ChunkDecoder.readings D.ChunkDecoder.allowance self.old (map (moved offset) (flat_map range runs.now)) }
         ensures { Delivered (limit_at_width D.Item.Element.WIDTH) D.ChunkDecoder.readings D.ChunkDecoder.allowance self.old self.new (map (moved offset) (flat_map range runs.now)) }
     {
         let mut next = 0;
@@ -235,8 +233,7 @@ impl<'a, D: ChunkDecoder> Delivery<'a, D> {
     fn serve_bitmap(&mut self, offset: u64, window: Window<'_>)
         requires small { offset ≤ 1024 }
         requires short { window.len ≤ 16777216 }
-        requires granted { declined (offers (limit_at_width D.Item.Element.WIDTH) D.ChunkDecoder.readings D.ChunkDecoder.allowance self.old) (map (moved offset) (window_positions window)) ≡ None }
-        requires room { 1024 ≤ length self.old.scratch.now }
+        requires granted { Granted (limit_at_width D.Item.Element.WIDTH) D.ChunkDecoder.readings D.ChunkDecoder.allowance self.old (map (moved offset) (window_positions window)) }
         ensures { Delivered (limit_at_width D.Item.Element.WIDTH) D.ChunkDecoder.readings D.ChunkDecoder.allowance self.old self.new (map (moved offset) (window_positions window.entry)) }
     {
         for chunk in 0..(offset + window.len).div_ceil(CHUNK) {
@@ -250,8 +247,7 @@ impl<'a, D: ChunkDecoder> Delivery<'a, D> {
     pub(crate) fn serve(&mut self, push: Push<'_>)
         requires formed { selection_fault push.selection ≡ None }
         requires small { push.offset ≤ 1024 }
-        requires granted { declined (offers (limit_at_width D.Item.Element.WIDTH) D.ChunkDecoder.readings D.ChunkDecoder.allowance self.old) (places push) ≡ None }
-        requires room { 1024 ≤ length self.old.scratch.now }
+        requires granted { Granted (limit_at_width D.Item.Element.WIDTH) D.ChunkDecoder.readings D.ChunkDecoder.allowance self.old (places push) }
         ensures { Delivered (limit_at_width D.Item.Element.WIDTH) D.ChunkDecoder.readings D.ChunkDecoder.allowance self.old self.new (places push.entry) }
     {
         match push.selection {
