@@ -1,4 +1,4 @@
-use Rattle.std.proofs.Common.{sym, ap, ◌∙◌, subst}
+use Rattle.std.proofs.Common.{sym, subst}
 use Rattle.kernels.specs.Moved.{limit_at_width}
 use Rattle.chunked.specs.Deliveries.{Delivered, Granted}
 use Rattle.chunked.proofs.Accepted.{places_in_bitmap, places_in_list, places_in_runs}
