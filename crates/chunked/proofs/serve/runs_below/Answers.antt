@@ -13,7 +13,7 @@ pub overflow_sub-count : goal.overflow_sub-count
 overflow_sub-count c =
     let runs = c.args.runs.now in
     let i = c.loop-next.next in
-    let offset = c.args.offset in
+    let offset = c.args.offset.by in
     let lo = c.args.lo in
     let hi = c.args.hi in
     let order : 0 ≤ i = omega arith in
@@ -29,7 +29,7 @@ pub overflow_add-count : goal.overflow_add-count
 overflow_add-count c =
     let runs = c.args.runs.now in
     let i = c.loop-next.next in
-    let offset = c.args.offset in
+    let offset = c.args.offset.by in
     let lo = c.args.lo in
     let hi = c.args.hi in
     let order : 0 ≤ i = omega arith in
@@ -46,7 +46,7 @@ pub returns-then-run-offset : goal.returns-then-run-offset
 returns-then-run-offset c =
     let runs = c.args.runs.now in
     let i = c.loop-next.next in
-    let offset = c.args.offset in
+    let offset = c.args.offset.by in
     let lo = c.args.lo in
     let hi = c.args.hi in
     let order : 0 ≤ i = omega arith in
@@ -62,7 +62,7 @@ pub loop-next-preserved : goal.loop-next-preserved
 loop-next-preserved c =
     let runs = c.args.runs.now in
     let i = c.loop-next.next in
-    let offset = c.args.offset in
+    let offset = c.args.offset.by in
     let lo = c.args.lo in
     let hi = c.args.hi in
     let order : 0 ≤ i = omega arith in
@@ -78,8 +78,8 @@ returns c =
     let runs = c.args.runs.now in
     let all : between 0 c.loop-next.next runs ≡ runs = between_start c.loop-next.next runs ∙ take_all c.loop-next.next runs c.loop-next-test.false in
     record {
-      count = c.loop-next.invariant.0 ∙ ap (λ rs. length (in_span c.args.offset c.args.lo c.args.hi rs)) all;
+      count = c.loop-next.invariant.0 ∙ ap (λ rs. length (in_span c.args.offset.by c.args.lo c.args.hi rs)) all;
       next = omega arith;
-      done = subst (AllByRecursion (EndsBy c.args.offset c.args.hi)) (all ∙ sym (take_all (length runs) runs (omega arith))) c.loop-next.invariant.1;
+      done = subst (AllByRecursion (EndsBy c.args.offset.by c.args.hi)) (all ∙ sym (take_all (length runs) runs (omega arith))) c.loop-next.invariant.1;
       past = λ h. absurd (omega arith);
     }
