@@ -118,9 +118,6 @@ module _ {D T : Type 0} (L : ℕ) (readings : D → List T) (allowance : D → �
     first_read : get_or runs (length runs - length rest) no_run ≡ get_or rest 0 no_run
     first_read = let on : length runs - length rest ≡ length runs - length rest + 0 = omega arith in ap (λ k. get_or runs k no_run) on ∙ read 0
 
-    pub rest_ahead : 0 < length rest → resume < (get_or rest 0 no_run).«end» + offset
-    rest_ahead some = let few = h.few in subst (λ r. resume < r.«end» + offset) first_read (h.walk.cursor.ahead (omega arith))
-
     module _ (some : 0 < length rest) (r : Run) (first : r ≡ get_or rest 0 no_run) where
       starts : get_or runs (length runs - length rest) no_run ≡ r
       starts = first_read ∙ sym first

@@ -71,8 +71,8 @@ struct Part {
     next: usize,
 }
 
-#[tactic(auto, using(crate::proofs::Spanning::count_few, crate::proofs::Spanning::count_more, crate::proofs::Spanning::ends_ahead, crate::proofs::Spanning::runs_at))]
 /// The places of ascending runs, from place `lo` on, that lie below `hi`.
+#[tactic(auto, using(crate::proofs::Spanning::count_few, crate::proofs::Spanning::count_more, crate::proofs::Spanning::ends_ahead, crate::proofs::Spanning::runs_at))]
 fn runs_below(runs: &[Run], offset: Offset, lo: u64, hi: u64) -> Part
     requires rising { RunsRise 0 16777216 runs.now }
     requires ahead { 0 < length runs.now → lo < (slice_index_or runs.now 0 no_run).«end» + offset.by }
