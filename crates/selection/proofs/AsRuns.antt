@@ -1,16 +1,16 @@
 -- Items of a list as runs, checked one by one.
-use Rattle.std.proofs.Common.{◌≡◌, ℕ, ◌+◌, ◌-◌, ◌<◌, ◌≤◌, ◌||◌, ltb, leb, Option, List, [], ◌∷◌, map, length, get_or, take, eqb, Some, None, Ok, Err, sum_by, filter, sym, refl, ap, ◌∙◌, subst, ap₂, arith, Bor}
+use Rattle.std.proofs.Common.{◌≡◌, ℕ, ◌+◌, ◌-◌, ◌<◌, ◌≤◌, ◌||◌, List, [], ◌∷◌, map, length, get_or, take, eqb, Some, None, Ok, Err, sum_by, filter, sym, refl, ap, ◌∙◌, subst, ap₂, arith, Bor}
 use Rattle.std.specs.List.{range_with_len}
 use Rattle.std.proofs.lemmas.Bool.Decides.{nat_tests}
 use Rattle.std.proofs.lemmas.List.{get_or-map, length-map, map-id}
+use Rattle.std.proofs.lemmas.List.Elements.{filter_agree}
 use Rattle.std.proofs.lemmas.List.Sums.{sum_by-cons, sum_by_more}
 use Rattle.selection.specs.declared.selections.Run.{Run}
 use Rattle.selection.specs.declared.refusals.Refusal.{Refusal}
-use Rattle.selection.specs.declared.refusals.Refusal.TheVariants.{Order, Past}
 use Rattle.selection.specs.declared.selections.Selection.TheVariants.{Indices, Runs}
-use Rattle.selection.specs.Refusals.{answered, first, first_of, when}
+use Rattle.selection.specs.Refusals.{answered, first, first_of}
 use Rattle.selection.specs.Selected.{among, covered, in_run, index_fault, indices_fault, long, no_run, positions, run_fault, runs_fault, selection_fault}
-use Rattle.selection.specs.Items.{listed_fault, listed_positions, single}
+use Rattle.selection.specs.Items.{item_fault, listed_fault, listed_positions, single}
 use Rattle.selection.proofs.Faults.{least_after, least_start, run_fine, run_says}
 use Rattle.selection.proofs.Objections.{first_same, answered_err, answered_ok, answered_value, count_ends, count_passes, count_stands}
 
@@ -33,24 +33,21 @@ module _ {X : Type 0} (f : X → Run) (n : ℕ) (xs : List X) (k least : ℕ) (h
   abbrev all : List Run
   all = map f xs
 
-  abbrev said : Run → List (Option Refusal)
-  said r = when (ltb r.start least || leb r.«end» r.start) (Order k) ∷ when (ltb n r.«end») (Past k) ∷ []
-
   here : get_or all k no_run ≡ f x
   here = get_or-map f xs k x no_run l ∙ ap f (sym is)
 
   within : k < length all
   within = omega (arith, length-map xs f)
 
-  says : first_of (said (f x)) ≡ run_fault n all k
-  says = subst (λ r. first_of (said r) ≡ run_fault n all k) here (run_says n all k least h.next)
+  says : item_fault (f x) k least n ≡ run_fault n all k
+  says = subst (λ r. item_fault r k least n ≡ run_fault n all k) here (run_says n all k least h.next)
 
   -- it is refused
-  pub checked_refused : (e : Refusal) (y : ℕ) → answered (first_of (said (f x))) y ≡ Err e → runs_fault n all ≡ Some e
+  pub checked_refused : (e : Refusal) (y : ℕ) → answered (item_fault (f x) k least n) y ≡ Err e → runs_fault n all ≡ Some e
   checked_refused e y a = count_stands (run_fault n all) k (length all) h.rest e within (sym says ∙ answered_err _ _ _ a)
 
   -- or it is sound, and the check goes on
-  module _ (next : ℕ) (a : answered (first_of (said (f x))) (f x).«end» ≡ Ok next) where
+  module _ (next : ℕ) (a : answered (item_fault (f x) k least n) (f x).«end» ≡ Ok next) where
     fine : run_fault n all k ≡ None
     fine = sym says ∙ answered_ok _ _ _ a
 
@@ -86,7 +83,7 @@ single_covers k [] = refl
 single_covers k (x ∷ xs) = let rest = single_covers k xs in let one : in_run k (single x) ≡ eqb x k = grind (arith, nat_tests) in ap₂ (λ a b. a || b) one rest
 
 pub single_positions : (n : ℕ) (xs : List ℕ) → listed_positions n (map single xs) ≡ filter (λ k. among k xs) (range_with_len 0 n)
-single_positions n xs = λ i. filter (λ k. single_covers k xs i) (range_with_len 0 n)
+single_positions n xs = filter_agree (λ k. covered k (map single xs)) (λ k. among k xs) (λ k. single_covers k xs) (range_with_len 0 n)
 
 -- so an index list is refused as its runs are, and has their positions
 module _ (xs : Bor (List ℕ)) (n : ℕ) where
@@ -107,8 +104,3 @@ module _ (rs : Bor (List Run)) (n : ℕ) where
   pub runs_listed_positions : listed_positions n (map (λ r. r) rs.now) ≡ positions (Runs rs n)
   unfolding positions
   runs_listed_positions = ap (listed_positions n) (map-id rs.now)
-
--- two selections that say the same
-pub same_selection : (xs : Bor (List ℕ)) (rs : Bor (List Run)) (n : ℕ) → rs.now ≡ map single xs.now → (selection_fault (Runs rs n) ≡ selection_fault (Indices xs n)) × (positions (Runs rs n) ≡ positions (Indices xs n))
-unfolding selection_fault positions
-same_selection xs rs n is = (ap (listed_fault n) is ∙ indices_listed_fault xs n, ap (listed_positions n) is ∙ indices_listed_positions xs n)

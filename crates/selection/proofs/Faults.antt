@@ -4,15 +4,13 @@ use Rattle.std.proofs.lemmas.Bool.Decides.{nat_tests}
 use Rattle.selection.specs.declared.selections.Run.{Run}
 use Rattle.selection.specs.declared.refusals.Refusal.TheVariants.{Order, Past}
 use Rattle.selection.specs.declared.windows.Window.{Window}
-use Rattle.selection.specs.Selected.{index_fault, run_fault, no_run, window_fault, long, short}
+use Rattle.selection.specs.Selected.{run_fault, no_run, window_fault, long, short}
+use Rattle.selection.specs.Items.{item_fault}
 use Rattle.std.proofs.lemmas.Bool.{leb-false, ltb-false, or_parts}
-use Rattle.selection.specs.Refusals.{first_of, when}
+use Rattle.selection.specs.Refusals.{when}
 use Rattle.selection.proofs.Objections.{none_each, when_none}
 
--- the least that may stand at place k: one past the item before, or 0 at the first
-abbrev pub least_index : List ℕ → ℕ → ℕ
-least_index xs k = cond (ltb 0 k) (get_or xs (k - 1) 0 + 1) 0
-
+-- the least start that may stand at place k: where the run before it ends, or 0 at the first
 abbrev pub least_start : List Run → ℕ → ℕ
 least_start rs k = cond (ltb 0 k) (get_or rs (k - 1) no_run).«end» 0
 
@@ -20,18 +18,10 @@ pub least_after : (rs : List Run) (k : ℕ) → (get_or rs k no_run).«end» ≡
 least_after rs k = let back : k + 1 - 1 ≡ k = omega arith in rw back (grind (arith, nat_tests))
 
 -- what the check of an item says is its fault
-pub index_says : (n : ℕ) (xs : List ℕ) (k least : ℕ) → least ≡ least_index xs k → first_of (when (ltb (get_or xs k 0) least) (Order k) ∷ when (leb n (get_or xs k 0)) (Past k) ∷ []) ≡ index_fault n xs k
-index_says n xs k least is = grind (arith, nat_tests)
-
-pub run_says : (n : ℕ) (rs : List Run) (k least : ℕ) → least ≡ least_start rs k → first_of (when (ltb (get_or rs k no_run).start least || leb (get_or rs k no_run).«end» (get_or rs k no_run).start) (Order k) ∷ when (ltb n (get_or rs k no_run).«end») (Past k) ∷ []) ≡ run_fault n rs k
+pub run_says : (n : ℕ) (rs : List Run) (k least : ℕ) → least ≡ least_start rs k → item_fault (get_or rs k no_run) k least n ≡ run_fault n rs k
 run_says n rs k least is = grind (arith, nat_tests)
 
 -- a sound item
-pub index_fine : (n : ℕ) (xs : List ℕ) (k least : ℕ) → least ≡ least_index xs k → index_fault n xs k ≡ None → (least ≤ get_or xs k 0) × (get_or xs k 0 < n)
-index_fine n xs k least is e =
-    let h = none_each (when (ltb (get_or xs k 0) least) (Order k) ∷ when (leb n (get_or xs k 0)) (Past k) ∷ []) (index_says n xs k least is ∙ e) in
-    (ltb-false _ _ (when_none _ _ h.0), leb-false _ _ (when_none _ _ h.1.0))
-
 pub run_fine : (n : ℕ) (rs : List Run) (k least : ℕ) → least ≡ least_start rs k → run_fault n rs k ≡ None → (least ≤ (get_or rs k no_run).start) × ((get_or rs k no_run).start < (get_or rs k no_run).«end») × ((get_or rs k no_run).«end» ≤ n)
 run_fine n rs k least is e =
     let r = get_or rs k no_run in

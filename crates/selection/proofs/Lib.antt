@@ -1,9 +1,9 @@
 pub mod Objections
 pub mod Rising
 pub mod Filtered
-pub mod Listed
 pub mod Faults
 pub mod AsRuns
+pub mod Listed
 pub mod Bits
 pub mod Fields
 pub mod Ranged

@@ -1,5 +1,5 @@
 -- Well formed lists pick what they list.
-use Rattle.std.proofs.Common.{◌≡◌, ℕ, zero, suc, ◌+◌, ◌-◌, ◌<◌, ◌≤◌, Bool, true, false, ◌&&◌, ◌||◌, eqb, ltb, leb, List, [], ◌∷◌, ◌++◌, length, get_or, None, Ok, sum_by, filter, sym, refl, ap, ◌∙◌, subst, ap₂, ⊎_elim, arith, Bor}
+use Rattle.std.proofs.Common.{◌≡◌, ℕ, zero, suc, ◌+◌, ◌-◌, ◌<◌, ◌≤◌, Bool, true, false, ◌&&◌, ◌||◌, eqb, ltb, leb, List, [], ◌∷◌, ◌++◌, map, length, get_or, None, Ok, sum_by, filter, sym, refl, ap, ◌∙◌, subst, ap₂, ⊎_elim, arith, Bor}
 use Rattle.std.specs.List.{range_with_len, flat_map, AllByRecursion}
 use Rattle.std.proofs.lemmas.Bool.{ne_eqb, eq-eqb, cases_eq, leb-false, ltb-false, lt-ltb, lt-leb, and_right, or_parts}
 use Rattle.std.proofs.lemmas.Bool.Decides.{nat_tests}
@@ -13,7 +13,8 @@ use Rattle.selection.specs.declared.refusals.Refusal.TheVariants.{Order, Past}
 use Rattle.selection.specs.declared.selections.Selection.TheVariants.{Bitmap, Indices, Runs}
 use Rattle.selection.specs.Refusals.{when, first, answered}
 use Rattle.selection.specs.Selected.{Rising, RunsRise, range, window_bit, window_fault, among, in_run, covered, index_fault, indices_fault, run_fault, runs_fault, no_run, positions, count_of, selection_fault}
-use Rattle.selection.specs.Items.{listed_positions}
+use Rattle.selection.specs.Items.{listed_positions, single}
+use Rattle.selection.proofs.AsRuns.{single_faults}
 use Rattle.selection.proofs.Objections.{none_each, none_of, none_when, none_first, when_none, first_none, ok_answered}
 use Rattle.selection.proofs.Rising.{rising_from, rising_within, rising_all, rising_counting, rising_get_d, rising_step}
 use Rattle.selection.proofs.Filtered.{kept_same}
@@ -76,28 +77,6 @@ pub rising_by_places : (lo hi : ℕ) (xs : List ℕ) → (0 < length xs → lo �
 rising_by_places lo hi [] a b c = tt
 rising_by_places lo hi (x ∷ xs) a b c = (a (omega arith), b 0 (omega arith), rising_by_places (suc x) hi xs (λ l. c 0 (omega arith)) (λ k l. b (suc k) (omega arith)) (λ k l. c (suc k) (omega arith)))
 
--- a list with no faulty item ascends below the length
-pub index_rises : (n : ℕ) (xs : List ℕ) → first (index_fault n xs) (range_with_len 0 (length xs)) ≡ None → Rising 0 n xs
-index_rises n xs e = rising_by_places 0 n xs (λ _. omega arith) below step
-  where
-    each : (k : ℕ) → k < length xs → index_fault n xs k ≡ None
-    each k l = at_count (λ k. index_fault n xs k ≡ None) (length xs) k (first_none (index_fault n xs) (range_with_len 0 (length xs)) e) l
-
-    below : (k : ℕ) → k < length xs → get_or xs k 0 < n
-    below k l = leb-false n (get_or xs k 0) (when_none _ _ (none_each (when (ltb 0 k && leb (get_or xs k 0) (get_or xs (k - 1) 0)) (Order k) ∷ when (leb n (get_or xs k 0)) (Past k) ∷ []) (each k l)).1.0)
-
-    step : (k : ℕ) → suc k < length xs → get_or xs k 0 < get_or xs (suc k) 0
-    step k l =
-        let h = when_none _ _ (none_each (when (ltb 0 (suc k) && leb (get_or xs (suc k) 0) (get_or xs (suc k - 1) 0)) (Order (suc k)) ∷ when (leb n (get_or xs (suc k) 0)) (Past (suc k)) ∷ []) (each (suc k) l)).0 in
-        let back : suc k - 1 ≡ k = omega arith in
-        let pos : ltb 0 (suc k) ≡ true = lt-ltb 0 (suc k) (omega arith) in
-        let test : leb (get_or xs (suc k) 0) (get_or xs k 0) ≡ false = rw (pos, back) at h in
-        leb-false (get_or xs (suc k) 0) (get_or xs k 0) test
-
-pub indices_pick : (xs : Bor (List ℕ)) (n : ℕ) → indices_fault n xs.now ≡ None → positions (Indices xs n) ≡ xs.now
-unfolding positions
-indices_pick xs n e = among_rising n 0 xs.now (rising_within 0 n 0 (0 + n) xs.now (omega arith) (omega arith) (index_rises n xs.now e))
-
 among_append : (k : ℕ) (xs ys : List ℕ) → among k (xs ++ ys) ≡ (among k xs || among k ys)
 among_append k [] ys = refl
 among_append k (x ∷ xs) ys = go (eqb x k) (among_append k xs ys)
@@ -157,6 +136,18 @@ runs_rise n rs e = runs_by_places 0 n rs (λ _. omega arith) inside step
         let pos : ltb 0 (suc k) ≡ true = lt-ltb 0 (suc k) (omega arith) in
         let test : ltb (get_or rs (suc k) no_run).start (get_or rs k no_run).«end» ≡ false = rw (pos, back) at h in
         ltb-false _ _ test
+
+single_rising : (lo hi : ℕ) (xs : List ℕ) → RunsRise lo hi (map single xs) → Rising lo hi xs
+single_rising lo hi [] h = tt
+single_rising lo hi (x ∷ xs) h = let most = h.2 in (h.0, omega arith, rising_from (x + 1) (suc x) hi xs (omega arith) (single_rising (x + 1) hi xs h.3))
+
+-- a list with no faulty item ascends below the length
+pub index_rises : (n : ℕ) (xs : List ℕ) → first (index_fault n xs) (range_with_len 0 (length xs)) ≡ None → Rising 0 n xs
+index_rises n xs e = single_rising 0 n xs (runs_rise n (map single xs) (single_faults n xs ∙ e))
+
+pub indices_pick : (xs : Bor (List ℕ)) (n : ℕ) → indices_fault n xs.now ≡ None → positions (Indices xs n) ≡ xs.now
+unfolding positions
+indices_pick xs n e = among_rising n 0 xs.now (rising_within 0 n 0 (0 + n) xs.now (omega arith) (omega arith) (index_rises n xs.now e))
 
 pub runs_pick_formed : (rs : Bor (List Run)) (n : ℕ) → runs_fault n rs.now ≡ None → positions (Runs rs n) ≡ flat_map range rs.now
 unfolding positions

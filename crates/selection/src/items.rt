@@ -1,10 +1,9 @@
 //! The items of a list, indices or runs, checked one by one.
-ghost use Rattle.std.specs.Prelude.{◌≡◌, ◌^◌, ◌<◌, ◌||◌, leb, [], ◌∷◌, length, map, nat_lt};
-ghost use Rattle.selection.specs.declared.refusals.Refusal.TheVariants.{Order as Unordered, Past as Reaching};
+ghost use Rattle.std.specs.Prelude.{◌≡◌, ◌^◌, ◌<◌, length, map};
 ghost use Rattle.selection.specs.declared.selections.Run.{Run};
-ghost use Rattle.selection.specs.Refusals.{answered, first_of, when};
+ghost use Rattle.selection.specs.Refusals.{answered};
 ghost use Rattle.selection.specs.Selected.{long};
-ghost use Rattle.selection.specs.Items.{listed_fault, listed_positions, single};
+ghost use Rattle.selection.specs.Items.{item_fault, listed_fault, listed_positions, single};
 
 use super::refusals::Refusal;
 use super::selections::Run;
@@ -26,7 +25,7 @@ pub trait Item: Copy {
     /// Refuses the item at a place if it is empty, starts below the least that may stand there or passes the
     /// length, and answers the least that may come next.
     fn check(self, place: usize, least: u64, len: u64) -> Result<u64, Refusal>
-        ensures { result ≡ answered (first_of (when (nat_lt (as_run self).start least || leb (as_run self).«end» (as_run self).start) (Unordered place) ∷ when (nat_lt len (as_run self).«end») (Reaching place) ∷ [])) (as_run self).«end» };
+        ensures { result ≡ answered (item_fault (as_run self) place least len) (as_run self).«end» };
 }
 
 impl Item for u64 {

@@ -74,6 +74,7 @@ fn window_ends(window: Window<'_>) -> Ends
 }
 
 /// The run that the set bits of a window make up.
+#[tactic(auto, unfolding(crate::specs::Selected::selection_fault))]
 fn bitmap_range(window: Window<'_>) -> Result<Option<Run>, Refusal>
     ensures { result ≡ answered (selection_fault (Bitmap window.entry)) (run_of (positions (Bitmap window.entry))) }
 {
@@ -99,6 +100,7 @@ fn items_range<I: Item>(items: &[I], len: u64) -> Result<Option<Run>, Refusal>
 
 /// The run that the selected positions make up: there is one exactly if they are consecutive, and
 /// not none.
+#[tactic(auto, using(crate::proofs::Ranged::one_run))]
 pub fn contiguous_filter_range(selection: Selection<'_>) -> Result<Option<Run>, Refusal>
     ensures value { result ≡ answered (selection_fault selection.entry) (run_of (positions selection.entry)) }
     ensures exact { OneRun (positions selection.entry) (run_of (positions selection.entry)) }

@@ -77,8 +77,6 @@ impl fmt::Display for Refusal {
     ghost output = { λ refusal. Some (text_of refusal) };
 
     fn fmt<W: fmt::Write>(&self, f: &mut fmt::Formatter<W>) -> fmt::Result {
-        let number = self.number();
-        let place = self.place();
-        write!(f, "number {number}, place {place}")
+        write!(f, "number {}, place {}", self.number(), self.place())
     }
 }

@@ -35,6 +35,7 @@ impl Selection<'_> {
     }
 
     /// Refuses a selection that is not well formed.
+    #[tactic(auto, unfolding(crate::specs::Selected::selection_fault))]
     pub fn check(self) -> Result<(), Refusal>
         ensures { result ≡ answered (selection_fault self.entry) tt }
     {
@@ -52,6 +53,7 @@ impl Selection<'_> {
     }
 
     /// How many positions are selected.
+    #[tactic(auto, unfolding(crate::specs::Selected::selection_fault))]
     pub fn count(self) -> Result<u64, Refusal>
         ensures { result ≡ answered (selection_fault self.entry) (count_of self.entry) }
     {

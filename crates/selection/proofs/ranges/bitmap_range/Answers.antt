@@ -1,12 +1,8 @@
-use Rattle.std.proofs.Common.{sym, rules}
+use Rattle.std.proofs.Common.{sym}
 use Rattle.selection.specs.Selected.{positions, selection_fault, window_bit, window_fault}
 use Rattle.selection.proofs.Objections.{answered_ok}
 use Rattle.selection.proofs.Ranged.{ranged}
 use Rattle.selection.proofs.ranges.bitmap_range.Goals as goal
-
-pub returns-in_err-check : goal.returns-in_err-check
-unfolding selection_fault
-returns-in_err-check c = search rules
 
 pub returns : goal.returns
 unfolding positions selection_fault

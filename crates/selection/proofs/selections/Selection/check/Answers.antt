@@ -1,12 +1,7 @@
 use Rattle.std.proofs.Common.{sym, rules}
-use Rattle.selection.specs.Selected.{selection_fault}
 use Rattle.selection.proofs.AsRuns.{indices_listed_fault, runs_listed_fault}
 use Rattle.selection.proofs.Objections.{answered_ok, ok_answered}
 use Rattle.selection.proofs.selections.Selection.check.Goals as goal
-
-pub returns-in-Bitmap : goal.returns-in-Bitmap
-unfolding selection_fault
-returns-in-Bitmap c = search rules
 
 pub returns-in_err-count_items-in-Indices : goal.returns-in_err-count_items-in-Indices
 returns-in_err-count_items-in-Indices c = rw (c.in-Indices.is, ← indices_listed_fault c.in-Indices.indices c.in-Indices.len) (search rules)

@@ -1,13 +1,8 @@
-use Rattle.std.proofs.Common.{sym, rules}
-use Rattle.selection.specs.Selected.{selection_fault}
+use Rattle.std.proofs.Common.{sym}
 use Rattle.selection.proofs.AsRuns.{indices_listed_fault, indices_listed_positions, runs_listed_fault, runs_listed_positions}
 use Rattle.selection.proofs.Objections.{answered_ok}
 use Rattle.selection.proofs.Listed.{count_window}
 use Rattle.selection.proofs.selections.Selection.count.Goals as goal
-
-pub returns-in_err-check-in-Bitmap : goal.returns-in_err-check-in-Bitmap
-unfolding selection_fault
-returns-in_err-check-in-Bitmap c = search rules
 
 pub returns-in_ok-check-in-Bitmap : goal.returns-in_ok-check-in-Bitmap
 returns-in_ok-check-in-Bitmap c = rw c.in-Bitmap.is (count_window c.in-Bitmap.window c.ones.result (answered_ok _ _ _ (sym c.in_ok-check-in-Bitmap.ensures)) c.ones.ensures)

@@ -27,10 +27,3 @@ overflow_add-ones c =
 
 pub loop-k-preserved : goal.loop-k-preserved
 loop-k-preserved c = more c
-
-pub returns : goal.returns
-returns c =
-    let up = c.div_ceil-k-end.ensures in
-    let left = c.loop-k-test.false in
-    let end : min c.args.n (64 * c.loop-k.k) ≡ c.args.n = omega arith in
-    c.loop-k.invariant ∙ ap (tally (window_from c.args.self c.args.first)) end
