@@ -1,6 +1,8 @@
 -- Values at places, and what a write leaves.
 use Rattle.std.proofs.Common.{◌≡◌, ℕ, zero, suc, ◌+◌, ◌-◌, ◌<◌, ◌≤◌, List, [], ◌∷◌, ◌++◌, map, length, get_or, take, drop, set, sym, refl, ap, ◌∙◌, ap₂, arith}
-use Rattle.std.specs.List.{range_with_len, AllByRecursion}
+use lib.Seq.{paste}
+use Rattle.std.specs.List.{copy_within, range_with_len, AllByRecursion}
+use Rattle.std.proofs.lemmas.List.Edits.{drop-paste, take-paste}
 use Rattle.std.proofs.lemmas.List.FromFn.{get_or-map-range_with_len, length-map-range_with_len}
 use Rattle.std.proofs.ByRecursion.{All-get_or, All-map, All-take}
 use Rattle.std.proofs.lemmas.List.{append-nil, drop-append-le, drop-take, take-append-drop, take-append-le, take-take, length-map, length-take-le, map_more, take_at, drop_at, append_assoc, drop-drop, drop_more, set_at, length-take, length-drop, length-append}
@@ -201,3 +203,34 @@ put_splice xs src out at from n h e =
     let size : length (take n (drop from src)) ≡ n = simp (length-take, length-drop) (omega arith) in
     let rest : drop (at + n - at) (drop at xs) ≡ drop (at + length (take n (drop from src))) xs = ap (λ k. drop k (drop at xs)) b ∙ drop-drop n at xs ∙ ap (λ k. drop (at + k) xs) (sym size) in
     ap₂ (λ vs ys. take at xs ++ (vs ++ ys)) same rest
+
+-- one element is written
+pub put_one : {T : Type 0} (xs src : List T) (at p : ℕ) (d : T) → p < length src → at < length xs → set xs at (get_or src p d) ≡ splice xs at (gather src (p ∷ []))
+put_one xs src at p d h l = sym (ap (splice xs at) (append-nil (value_at src p) ∙ value_at_is src p d h) ∙ set_splice xs at (get_or src p d) l)
+
+-- a part that is written where it stands
+pub splice_self : {T : Type 0} (xs : List T) (at n : ℕ) → at + n ≤ length xs → splice xs at (take n (drop at xs)) ≡ xs
+splice_self xs at n l =
+    let size : length (take n (drop at xs)) ≡ n = simp (length-take, length-drop) (omega arith) in
+    ap (λ k. take at xs ++ (take n (drop at xs) ++ drop (at + k) xs)) size
+    ∙ ap (λ zs. take at xs ++ (take n (drop at xs) ++ zs)) (sym (drop-drop n at xs))
+    ∙ ap (λ zs. take at xs ++ zs) (take-append-drop n (drop at xs))
+    ∙ take-append-drop at xs
+
+-- a block that is moved down
+pub block_moved : {T : Type 0} (xs out : List T) (a n to : ℕ) → to ≤ a → a + n ≤ length xs → out ≡ copy_within xs a (a + n) to → out ≡ splice xs to (take n (drop a xs))
+block_moved xs out a n to l h e =
+    let m : a + n - a ≡ n = omega arith in
+    let part = drop a xs in
+    let some : n ≤ length part = simp length-drop (omega arith) in
+    let size : length (take n part) ≡ n = simp (length-take, length-drop) (omega arith) in
+    e
+    ∙ ap (paste xs to part) m
+    ∙ sym (take-append-drop (to + n) (paste xs to part n))
+    ∙ ap₂ (λ us vs. us ++ vs) (take-paste xs to part n (omega arith) some) (drop-paste xs to part n (omega arith) some)
+    ∙ append_assoc (take to xs) (take n part) (drop (to + n) xs)
+    ∙ ap (λ k. take to xs ++ (take n part ++ drop (to + k) xs)) (sym size)
+
+-- a block that stands where it belongs
+pub stands_there : {T : Type 0} (xs : List T) (a n to : ℕ) → to ≡ a → a + n ≤ length xs → xs ≡ splice xs to (take n (drop a xs))
+stands_there xs a n to e l = sym (ap (λ k. splice xs k (take n (drop a xs))) e ∙ splice_self xs a n l)

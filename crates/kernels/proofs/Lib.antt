@@ -3,6 +3,8 @@ pub mod Rows
 pub mod SetBits
 pub mod Walked
 pub mod Masked
-pub mod Runs
-pub mod Listed
 pub mod Putting
+pub mod Rises
+pub mod Sequences
+pub mod Runs
+pub mod InRuns

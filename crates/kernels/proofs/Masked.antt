@@ -1,10 +1,10 @@
 -- The positions of a mask, word by word, and what is left of a compaction.
-use Rattle.std.proofs.Common.{◌≡◌, ℕ, zero, suc, ◌+◌, ◌-◌, ◌*◌, ◌/◌, ◌^◌, ◌<◌, ◌≤◌, Bool, true, false, ◌&&◌, ltb, List, [], ◌∷◌, ◌++◌, length, get_or, set, filter, sym, refl, ap, ◌∙◌, subst, suc-add, arith, Bor}
+use Rattle.std.proofs.Common.{◌≡◌, ℕ, zero, suc, ◌+◌, ◌-◌, ◌*◌, ◌/◌, ◌^◌, ◌<◌, ◌≤◌, Bool, true, false, ◌&&◌, ltb, List, [], ◌∷◌, ◌++◌, length, filter, Some, None, sym, refl, ap, ◌∙◌, subst, suc-add, arith, Bor}
 use Rattle.std.specs.List.{range_with_len, AllByRecursion}
 use Rattle.std.proofs.lemmas.List.FromFn.{length-range_with_len}
 use Rattle.std.proofs.lemmas.List.Elements.{filter-append}
 use Rattle.std.proofs.ByRecursion.{all_kept_by, All-weaker}
-use Rattle.std.proofs.lemmas.List.{append-nil, length-append}
+use Rattle.std.proofs.lemmas.List.{append-nil}
 use Rattle.std.proofs.lemmas.Bool.{and_right, lt-ltb, le-ltb}
 use Rattle.selection.specs.declared.windows.Window.{Window}
 use Rattle.selection.specs.Selected.{bit_of, window_bit, word_bit, word_of}
@@ -13,9 +13,9 @@ use Rattle.selection.proofs.Filtered.{kept_fewer_all, kept_same}
 use Rattle.selection.proofs.Rising.{rising_all, rising_counting}
 use Rattle.kernels.specs.declared.slice.MaskBits.{MaskBits}
 use Rattle.kernels.specs.declared.slice.MaskBits.TheVariants.{Words, Window as Framed}
-use Rattle.kernels.specs.Moved.{gather, splice, value_at}
-use Rattle.kernels.specs.Masks.{Covers, Inside, Masks, mask_bit, mask_len, mask_positions, selected_by, set_bits, count_of_words, words_bit}
-use Rattle.kernels.proofs.Gathered.{gather_append, length_gather, splice_first, splice_none, splice_splice, value_at_is}
+use Rattle.kernels.specs.declared.slice.MaskWords.{MaskWords}
+use Rattle.kernels.specs.Words.{TakesWord}
+use Rattle.kernels.specs.Masks.{WordAt, Covers, Inside, Masks, mask_bit, mask_len, mask_positions, selected_by, set_bits, count_of_words, words_bit}
 use Rattle.kernels.proofs.SetBits.{bits_by_test}
 
 pub counting_split : (m n a : ℕ) → range_with_len a (m + n) ≡ range_with_len a m ++ range_with_len (a + m) n
@@ -80,53 +80,9 @@ pub selected_inside : (bits : MaskBits) (n : ℕ) → Masks bits n → Inside n 
 unfolding selected_by
 selected_inside bits n h = subst (λ x. Inside x (filter (mask_bit bits) (range_with_len 0 (mask_len bits)))) h.long (kept_inside (mask_bit bits) (mask_len bits))
 
--- what is left to write, after what is written, gives the whole
-pub record Left {T : Type 0} (src out : List T) (pos : ℕ) (ps : List ℕ) (total : ℕ) (final : List T) : Type 0 where
-  pub inside : Inside (length src) ps
-  pub count : pos + length ps ≡ total
-  pub written : splice out pos (gather src ps) ≡ final
-
 pub all_parts : (P : ℕ → Type 0) (xs ys : List ℕ) → AllByRecursion P (xs ++ ys) → AllByRecursion P xs × AllByRecursion P ys
 all_parts P [] ys h = (tt, h)
 all_parts P (x ∷ xs) ys h = let r = all_parts P xs ys h.1 in ((h.0, r.0), r.1)
-
--- the first of what is left fits
-pub left_first : {T : Type 0} {src out : List T} {pos total : ℕ} {final : List T} (ps qs : List ℕ) → Left src out pos (ps ++ qs) total final → total ≤ length out → Inside (length src) ps × (pos + length ps ≤ length out)
-left_first {src = src} ps qs h l =
-    let c = h.count in
-    let n = length-append ps qs in
-    ((all_parts (λ p. p < length src) ps qs h.inside).0, omega arith)
-
--- some of it is written
-pub left_turn : {T : Type 0} {src out : List T} {pos total : ℕ} {final : List T} (ps qs : List ℕ) (pos' : ℕ) (out' : List T) → Left src out pos (ps ++ qs) total final → total ≤ length out → pos' ≡ pos + length ps → out' ≡ splice out pos (gather src ps) → Left src out' pos' qs total final
-left_turn {src = src} {out = out} {pos = pos} ps qs pos' out' h l e f =
-    let both = all_parts (λ p. p < length src) ps qs h.inside in
-    let c = h.count in
-    let n = length-append ps qs in
-    let size : length (gather src ps) ≡ length ps = length_gather src ps both.0 in
-    record {
-      inside = both.1;
-      count = omega arith;
-      written = ap (λ xs. splice xs pos' (gather src qs)) f ∙ ap (λ m. splice (splice out pos (gather src ps)) m (gather src qs)) e ∙ splice_splice out pos (length ps) (gather src ps) (gather src qs) size (omega arith) ∙ ap (splice out pos) (sym (gather_append src ps qs)) ∙ h.written;
-    }
-
-pub left_same : {T : Type 0} {src out : List T} {pos total : ℕ} {final : List T} {ps : List ℕ} (qs : List ℕ) → ps ≡ qs → Left src out pos ps total final → Left src out pos qs total final
-left_same {src = src} {out = out} {pos = pos} {total = total} {final = final} qs e h = subst (λ rs. Left src out pos rs total final) e h
-
--- nothing is left
-pub left_done : {T : Type 0} {src out : List T} {pos total : ℕ} {final : List T} → Left src out pos [] total final → (pos ≡ total) × (out ≡ final)
-left_done {out = out} {pos = pos} h = let c = h.count in (omega arith, sym (splice_none out pos) ∙ h.written)
-
--- the first element of what is left is written
-pub left_one : {T : Type 0} {src out : List T} {pos total : ℕ} {final : List T} (p : ℕ) (qs : List ℕ) (y : T) → Left src out pos (p ∷ qs) total final → total ≤ length out → y ≡ get_or src p y → Left src (set out pos y) (pos + 1) qs total final
-left_one {src = src} {out = out} {pos = pos} p qs y h l e =
-    let c = h.count in
-    let one : value_at src p ≡ y ∷ [] = value_at_is src p y h.inside.0 ∙ ap (λ v. v ∷ []) (sym e) in
-    record {
-      inside = h.inside.1;
-      count = omega arith;
-      written = sym (splice_first out pos y (gather src qs) (omega arith)) ∙ ap (λ v. splice out pos (v ++ gather src qs)) (sym one) ∙ h.written;
-    }
 
 pub positions_inside : (ws : List ℕ) (n : ℕ) → Inside n (mask_positions ws n)
 unfolding mask_positions
@@ -148,6 +104,23 @@ positions_fewer ws n = let h = kept_fewer_all (words_bit ws) (range_with_len 0 n
 pub positions_same : (ws : List ℕ) (q : ℕ → Bool) (n : ℕ) → ((i : ℕ) → i < n → words_bit ws i ≡ q i) → mask_positions ws n ≡ filter q (range_with_len 0 n)
 unfolding mask_positions
 positions_same ws q n h = kept_same (words_bit ws) q (range_with_len 0 n) (All-weaker (λ i. (0 ≤ i) × (i < n)) (λ i. words_bit ws i ≡ q i) (λ i l. h i l.1) (range_with_len 0 n) (rising_all 0 n (range_with_len 0 n) (rising_counting 0 n n (omega arith))))
+
+-- the positions of all words
+pub word_first : (bits : MaskBits) (it : MaskWords) (n : ℕ) → it.next ≡ 0 → Masks bits n → left_of (mask_bit bits) it.next (count_of_words bits) ≡ selected_by bits
+word_first bits it n e h = ap (λ m. left_of (mask_bit bits) m (count_of_words bits)) e ∙ mask_left bits n h
+
+-- those of the word that comes next, and the rest
+pub word_next : (bits : MaskBits) (it it' : MaskWords) (k w : ℕ) → it.bits ≡ bits → TakesWord it (Some (k, w)) it' → (left_of (mask_bit bits) it.next (count_of_words bits) ≡ set_bits 64 w (64 * k) ++ left_of (mask_bit bits) it'.next (count_of_words bits)) × (it'.bits ≡ bits) × (k < count_of_words bits)
+word_next bits it it' k w e h =
+    let q = mask_bit bits in
+    let n = count_of_words bits in
+    let at : WordAt bits k w = subst (λ m. WordAt bits m w) (sym h.0) (subst (λ b. WordAt b it.next w) e h.2) in
+    let below : k < n = subst (λ m. m < n) (sym h.0) (subst (λ b. it.next < count_of_words b) e h.1) in
+    let next : k + 1 ≡ it'.next = ap (λ m. m + 1) h.0 ∙ sym (ap (λ t. t.next) h.3) in
+    (ap (λ m. left_of q m n) (sym h.0) ∙ left_word q k n w below at ∙ ap (λ m. set_bits 64 w (64 * k) ++ left_of q m n) next, ap (λ t. t.bits) h.3 ∙ e, below)
+
+pub word_over : (bits : MaskBits) (it it' : MaskWords) → it.bits ≡ bits → TakesWord it None it' → left_of (mask_bit bits) it.next (count_of_words bits) ≡ []
+word_over bits it it' e h = left_none (mask_bit bits) it.next (count_of_words bits) (subst (λ b. count_of_words b ≤ it.next) e h.0)
 
 -- the bits of a window's word
 pub bits_of_window : (w : Window) (k j : ℕ) → j < 64 → bit_of (word_of w k) j ≡ mask_bit (Framed w) (64 * k + j)

@@ -1,18 +1,12 @@
 -- One turn of a walk over the runs of set bits of a word.
-use Rattle.std.proofs.Common.{◌≡◌, ℕ, zero, suc, ◌+◌, ◌-◌, ◌/◌, ◌%◌, ◌^◌, ◌<◌, ◌≤◌, ◌⊎◌, List, ◌++◌, length, take, drop, sym, ap, ◌∙◌, subst, inl, inr, pow-suc, arith, shr-shr}
+use Rattle.std.proofs.Common.{◌≡◌, ℕ, zero, suc, ◌+◌, ◌-◌, ◌/◌, ◌%◌, ◌^◌, ◌<◌, ◌≤◌, ◌⊎◌, ◌++◌, sym, ap, ◌∙◌, subst, inl, inr, pow-suc, arith, shr-shr}
 use lib.Arith.{lt-one}
-use lib.Bits.{bit_and, and_le_l}
-use lib.Count.{ones, ones-le, count_trailing_zeros}
+use lib.Count.{count_trailing_zeros}
 use lib.Pow.{shr_le}
 use Rattle.std.specs.List.{range_with_len}
 use Rattle.std.proofs.lemmas.Nat.{trailing_le}
-use Rattle.std.proofs.lemmas.List.FromFn.{length-range_with_len}
-use Rattle.kernels.specs.declared.sink.Sink.{Sink}
 use Rattle.kernels.specs.Masks.{set_bits}
-use Rattle.kernels.specs.Sinks.{Puts}
-use Rattle.kernels.proofs.Gathered.{gather_counting}
-use Rattle.kernels.proofs.SetBits.{bits_ones, bits_past_zeros, counting_inside, half_shr, parity, zeros_even, zeros_odd}
-use Rattle.kernels.proofs.Putting.{Left, left_first, left_same, left_turn}
+use Rattle.kernels.proofs.SetBits.{bits_ones, bits_past_zeros, half_shr, parity, zeros_even, zeros_odd}
 
 -- the lowest set bit of a number below 2 ^ k is below bit k
 pub trailing_lt : (k n : ℕ) → 0 < n → n < 2 ^ k → count_trailing_zeros k n < k
@@ -66,24 +60,3 @@ first_run w from n p h e =
       shrinks = omega arith;
       parts = bits_past_zeros 64 w from p h ∙ bits_ones 64 v (from + z) (omega arith) ∙ ap (λ m. range_with_len (from + z) m ++ set_bits 64 (v / 2 ^ m) (from + z + m)) (sym e) ∙ ap (λ x. range_with_len (from + z) n ++ set_bits 64 x (from + z + n)) rest;
     }
-
--- the run lies inside, and has room
-pub run_fits : {T : Type 0} {src all : List T} {sink first : Sink T} (w from n : ℕ) → FirstRun w from n → Left src (set_bits 64 w from) sink all first → (from + count_trailing_zeros 64 w + n ≤ length src) × (sink.at + n ≤ length sink.places.now)
-run_fits {src = src} w from n r l =
-    let run = range_with_len (from + count_trailing_zeros 64 w) n in
-    let rest = set_bits 64 (w / 2 ^ count_trailing_zeros 64 w / 2 ^ 1 / 2 ^ (n - 1)) (from + count_trailing_zeros 64 w + n) in
-    let fits = left_first run rest (left_same (run ++ rest) r.parts l) in
-    let size = length-range_with_len (from + count_trailing_zeros 64 w) n in
-    let room = fits.room in
-    (counting_inside (length src) (from + count_trailing_zeros 64 w) n fits.inside r.some, omega arith)
-
--- the run is put
-pub run_turn : {T : Type 0} {src all : List T} {sink first : Sink T} (w from n : ℕ) (next : Sink T) → FirstRun w from n → Left src (set_bits 64 w from) sink all first → Puts (take n (drop (from + count_trailing_zeros 64 w) src)) sink next → Left src (set_bits 64 (w / 2 ^ count_trailing_zeros 64 w / 2 ^ 1 / 2 ^ (n - 1)) (from + count_trailing_zeros 64 w + n)) next all first
-run_turn {src = src} {sink = sink} w from n next r l put =
-    let run = range_with_len (from + count_trailing_zeros 64 w) n in
-    let rest = set_bits 64 (w / 2 ^ count_trailing_zeros 64 w / 2 ^ 1 / 2 ^ (n - 1)) (from + count_trailing_zeros 64 w + n) in
-    left_turn run rest next (left_same (run ++ rest) r.parts l) (subst (λ vs. Puts vs sink next) (sym (gather_counting src n (from + count_trailing_zeros 64 w))) put)
-
--- some of the bits of a word are at most 64
-pub part_ones : (w x : ℕ) → w < 2 ^ 64 → ones (bit_and w x) ≤ 64
-part_ones w x h = let l = and_le_l w x in ones-le 64 (bit_and w x) (omega arith)

@@ -224,7 +224,7 @@ bits_over w at e =
     let a : at + 0 ≡ at = omega arith in
     ap (set_bits 64 w) (sym a) ∙ bits_moved 64 w at 0 ∙ ap (map (λ i. at + i)) e
 
-byte_of : (w b : ℕ) → b < 8 → get_or (to_le_bytes w64 w) b 0 ≡ w / 2 ^ (8 * b) % 256
+pub byte_of : (w b : ℕ) → b < 8 → get_or (to_le_bytes w64 w) b 0 ≡ w / 2 ^ (8 * b) % 256
 byte_of w zero h = let e : w / 2 ^ (8 * 0) ≡ w = omega arith in ap (λ v. v % 256) (sym e)
 byte_of w (suc zero) h = refl
 byte_of w (suc (suc zero)) h = refl

@@ -1,3 +1,5 @@
 pub mod Moved
 pub mod Masks
+pub mod Words
+pub mod Ordered
 pub mod Sinks

@@ -53,12 +53,11 @@ pub fn compact_bits<T: Element>(
 /// The count ends at the first word that brings too many.
 fn few_runs(bits: MaskBits<'_>, bytes: u128) -> bool {
     let mut runs = 0;
-    let mut places = 0..bits.words();
+    let mut words = bits.iter();
     loop {
-        let Some(k) = places.next() else {
+        let Some((_, word)) = words.next() else {
             break true;
         };
-        let word = bits.word(k);
         runs += u128::from((word & !(word << 1)).count_ones());
         if MIN_RUN_BYTES * runs > bytes {
             break false;

@@ -1,12 +1,11 @@
 //! Compaction by a table of bytes.
 ghost use Rattle.std.specs.Prelude.{◌≡◌, ◌<◌, ◌≤◌, length, slice_index};
-ghost use Rattle.kernels.specs.Moved.{gather};
 ghost use Rattle.kernels.specs.Masks.{Masks, compacted, row_of, selected_by, set_bits};
-ghost use Rattle.kernels.specs.Sinks.{Fits, Puts};
+ghost use Rattle.kernels.specs.Ordered.{InOrder};
 
 use super::compaction::{WordStep, compact};
-use super::sink::Sink;
 use super::slice::MaskBits;
+use super::targets::Target;
 
 /// For each byte a row of nine: its set bits, the lowest first, with 0 up to the eighth place, and their number.
 const BYTE_TABLE: [u8; 2304] = [
@@ -103,33 +102,35 @@ fn row_at(byte: u8) -> &'static [u8]
 pub(crate) struct ByTable;
 
 impl WordStep for ByTable {
-    fn put_word<T: Copy>(src: &[T], word: u64, base: usize, sink: &mut Sink<'_, T>) {
+    fn put_word<P: Target>(word: u64, base: usize, target: &mut P) {
         for (b, byte) in word.to_le_bytes().iter().enumerate() {
-            put_byte(src, *byte, base + 8 * b, sink);
+            put_byte(*byte, base + 8 * b, target);
         }
     }
 }
 
 /// Puts the elements at the set bits of a byte, whose lowest bit stands for `base`: all eight as a block.
-fn put_byte<T: Copy>(src: &[T], byte: u8, base: usize, sink: &mut Sink<'_, T>)
-    requires { Fits src.now (set_bits 8 byte base) sink.old }
-    ensures { Puts (gather src.now (set_bits 8 byte base)) sink.old sink.new }
+fn put_byte<P: Target>(byte: u8, base: usize, target: &mut P)
+    requires laws { InOrder P.can P.took }
+    requires able { P.can target.old (set_bits 8 byte base) }
+    ensures { P.took target.old (set_bits 8 byte base) target.new }
 {
     if byte == 255 {
-        sink.put_run(src, base, 8);
+        target.put_run(base, 8);
     } else {
-        put_row(src, byte, base, sink);
+        put_row(byte, base, target);
     }
 }
 
 /// Puts the elements at the set bits of a byte, one by one.
-fn put_row<T: Copy>(src: &[T], byte: u8, base: usize, sink: &mut Sink<'_, T>)
-    requires { Fits src.now (set_bits 8 byte base) sink.old }
-    ensures { Puts (gather src.now (set_bits 8 byte base)) sink.old sink.new }
+fn put_row<P: Target>(byte: u8, base: usize, target: &mut P)
+    requires laws { InOrder P.can P.took }
+    requires able { P.can target.old (set_bits 8 byte base) }
+    ensures { P.took target.old (set_bits 8 byte base) target.new }
 {
     let row = row_at(byte);
     for place in &row[..usize::from(row[8])] {
-        sink.put(src[base + usize::from(*place)]);
+        target.put(base + usize::from(*place));
     }
 }
 

@@ -7,12 +7,14 @@ mod compaction;
 mod elements;
 mod lists;
 mod ones;
-mod sink;
+mod picks;
 mod slice;
+mod targets;
 
 pub use buffer::{compact_bits, compact_words};
 pub use byte_compress::{compress_bits, table_entry};
-pub use compaction::{compact_by_bitmap, compact_runs_by_bitmap};
+pub use compaction::{compact_by_bitmap, compact_runs_by_bitmap, move_by_bitmap};
 pub use elements::{Element, Event, sparse_limit};
 pub use lists::list_words;
-pub use slice::{MaskBits, copy_at, copy_part, copy_to};
+pub use picks::{copy_runs, move_at, move_runs};
+pub use slice::{MaskBits, MaskWords, copy_at, copy_part, copy_to};

@@ -1,8 +1,10 @@
 //! Copies of the elements at some places of a slice.
-ghost use Rattle.std.specs.Prelude.{◌≡◌, ◌+◌, ◌<◌, ◌≤◌, map, length, take, drop};
+ghost use Rattle.std.specs.Prelude.{◌≡◌, ◌+◌, ◌-◌, ◌<◌, ◌≤◌, map, length, take, drop};
+ghost use Rattle.std.specs.Iterator.{at_most};
 ghost use Rattle.std.specs.List.{AllByRecursion};
 ghost use Rattle.kernels.specs.Moved.{Within, gather, shifted, splice};
 ghost use Rattle.kernels.specs.Masks.{Inside, Masks, WordAt, compacted, selected_by, set_bits, count_of_words};
+ghost use Rattle.kernels.specs.Words.{TakesWord};
 
 use selection::Window;
 
@@ -13,7 +15,7 @@ pub enum MaskBits<'a> {
     Window(Window<'a>),
 }
 
-impl MaskBits<'_> {
+impl<'a> MaskBits<'a> {
     /// The number of words.
     pub fn words(self) -> usize
         ensures { result ≡ count_of_words self.entry }
@@ -33,6 +35,41 @@ impl MaskBits<'_> {
             MaskBits::Words { words, len: _ } => words[k],
             MaskBits::Window(window) => window.word(k as u64),
         }
+    }
+
+    /// All words, each after its place.
+    pub fn iter(self) -> MaskWords<'a>
+        ensures bits { result.bits ≡ self.entry }
+        ensures next { result.next ≡ 0 }
+    {
+        MaskWords {
+            bits: self,
+            next: 0,
+        }
+    }
+}
+
+/// The words of a mask from a place on, each after its place.
+#[derive(Drop)]
+pub struct MaskWords<'a> {
+    bits: MaskBits<'a>,
+    next: usize,
+}
+
+impl Iterator for MaskWords<'_> {
+    type Item = (usize, u64);
+
+    ghost next_gives = { TakesWord };
+
+    ghost remaining = { λ s. at_most (count_of_words s.bits - s.next) };
+
+    fn next(&mut self) -> Option<(usize, u64)> {
+        let place = self.next;
+        if place >= self.bits.words() {
+            return None;
+        }
+        self.next += 1;
+        Some((place, self.bits.word(place)))
     }
 }
 
@@ -63,4 +100,15 @@ pub fn copy_to<T: Copy>(src: &[T], from: usize, n: usize, dst: &mut [T], pos: us
     ensures { dst.new ≡ splice dst.old pos (take n (drop from src.now)) }
 {
     dst[pos..pos + n].copy_from_slice(&src[from..from + n]);
+}
+
+/// Moves `n` elements down to a place, where they do not stand there already.
+pub(crate) fn move_block<T: Copy>(values: &mut [T], from: usize, n: usize, to: usize)
+    requires down { to ≤ from }
+    requires inside { from + n ≤ length values.old }
+    ensures { values.new ≡ splice values.old to (take n (drop from values.old)) }
+{
+    if to != from {
+        values.copy_within(from..from + n, to);
+    }
 }

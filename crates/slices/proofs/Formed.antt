@@ -1,20 +1,18 @@
 -- What a well formed selection picks, form by form.
-use Rattle.std.proofs.Common.{◌≡◌, ℕ, zero, suc, ◌+◌, ◌-◌, ◌^◌, ◌<◌, ◌≤◌, List, [], ◌∷◌, ◌++◌, map, length, get_or, drop, None, sym, refl, ap, ◌∙◌, subst, ap₂, arith, Bor}
-use Rattle.std.specs.List.{range_with_len, flat_map, AllByRecursion}
+use Rattle.std.proofs.Common.{◌≡◌, ℕ, zero, suc, ◌+◌, ◌-◌, ◌^◌, ◌<◌, ◌≤◌, List, [], ◌∷◌, map, length, get_or, None, sym, refl, ap, ◌∙◌, subst, ap₂, arith, Bor}
+use Rattle.std.specs.List.{flat_map, AllByRecursion}
 use Rattle.std.proofs.ByRecursion.{All-weaker}
-use Rattle.std.proofs.lemmas.List.{drop_more}
 use Rattle.selection.specs.declared.windows.Window.{Window}
 use Rattle.selection.specs.declared.selections.Run.{Run}
 use Rattle.selection.specs.declared.selections.Selection.{Selection}
 use Rattle.selection.specs.declared.selections.Selection.TheVariants.{Bitmap, Indices, Runs}
 use Rattle.selection.specs.Selected.{Rising, RunsRise, extent, indices_fault, long, no_run, positions, range, runs_fault, selection_fault}
-use Rattle.selection.proofs.Listed.{index_rises, indices_pick, ranges_rise, runs_pick_formed, runs_rise}
+use Rattle.selection.proofs.Listed.{index_rises, indices_pick, runs_pick_formed, runs_rise}
 use Rattle.selection.proofs.Objections.{none_each}
-use Rattle.selection.proofs.Rising.{rising_all, rising_counting, rising_kept}
-use Rattle.kernels.specs.declared.slice.MaskBits.{MaskBits}
+use Rattle.selection.proofs.Rising.{rising_all}
 use Rattle.kernels.specs.declared.slice.MaskBits.TheVariants.{Window as Framed}
 use Rattle.kernels.specs.Moved.{Within, gather, shifted, splice}
-use Rattle.kernels.specs.Masks.{Inside, Masks, compacted, mask_bit, mask_len, selected_by}
+use Rattle.kernels.specs.Masks.{Inside, Masks, compacted, selected_by}
 use Rattle.kernels.proofs.Masked.{window_mask, window_selected}
 
 -- a bitmap
@@ -56,15 +54,8 @@ run_at lo hi [] k h l = absurd (omega arith)
 run_at lo hi (r ∷ rs) zero h l = (h.1, h.2)
 run_at lo hi (r ∷ rs) (suc k) h l = run_at r.«end» hi rs k h.3 (omega arith)
 
--- its positions, and those of the runs after it
-pub run_parts : (rs : List Run) (k : ℕ) → k < length rs → flat_map range (drop k rs) ≡ range (get_or rs k no_run) ++ flat_map range (drop (k + 1) rs)
-run_parts rs k l = ap (flat_map range) (drop_more rs k no_run l)
-
 pub rising_inside : (n : ℕ) (xs : List ℕ) → Rising 0 n xs → Inside n xs
 rising_inside n xs h = All-weaker (λ p. (0 ≤ p) × (p < n)) (λ p. p < n) (λ p l. l.1) xs (rising_all 0 n xs h)
-
-pub ranges_inside : (n : ℕ) (rs : List Run) → RunsRise 0 n rs → Inside n (flat_map range rs)
-ranges_inside n rs h = rising_inside n (flat_map range rs) (ranges_rise 0 n rs h)
 
 -- indices that are not moved
 pub rising_within_64 : (n : ℕ) (xs : List ℕ) → n < 2 ^ 64 → Rising 0 n xs → AllByRecursion (Within 0 0 n) xs
@@ -73,11 +64,6 @@ rising_within_64 n xs l h = All-weaker (λ p. (0 ≤ p) × (p < n)) (Within 0 0 
 unshifted : (xs : List ℕ) → map (shifted 0 0) xs ≡ xs
 unshifted [] = refl
 unshifted (x ∷ xs) = let e : x + 0 - 0 ≡ x = omega arith in ap₂ (λ (y : ℕ) (ys : List ℕ). y ∷ ys) e (unshifted xs)
-
--- what a mask selects ascends
-pub mask_rises : (bits : MaskBits) (n : ℕ) → Masks bits n → Rising 0 n (selected_by bits)
-unfolding selected_by
-mask_rises bits n h = subst (λ k. Rising 0 k (selected_by bits)) h.long (rising_kept (mask_bit bits) 0 (mask_len bits) (range_with_len 0 (mask_len bits)) (rising_counting 0 (mask_len bits) (mask_len bits) (omega arith)))
 
 -- what is left by the same places
 pub left_by : {T : Type 0} (xs out out' : List T) (ps qs : List ℕ) → out' ≡ compacted xs ps out → ps ≡ qs → out' ≡ compacted xs qs out

@@ -1,7 +1,5 @@
 pub mod Admitted
 pub mod Formed
-pub mod Copied
-pub mod Placed
 pub mod Packed
 pub mod Extracts
 pub mod Stored

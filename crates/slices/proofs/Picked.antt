@@ -26,11 +26,11 @@ unfolding positions
 bitmap_positions s w e = ap positions (sym e)
 
 -- the bits at the positions of a form are those that are picked
-pub picked_room : (s : Selection) (ps : List ℕ) (out : List ℕ) (acc : Accumulator) → ps ≡ positions s → Room out acc (count_of s) → Room out acc (length ps)
-picked_room s ps out acc e r = subst (λ t. Room out acc (length t)) (sym e) r
+pub picked_room : (s : Selection) (ps : List ℕ) (acc : Accumulator) → ps ≡ positions s → Room acc (count_of s) → Room acc (length ps)
+picked_room s ps acc e r = subst (λ t. Room acc (length t)) (sym e) r
 
-pub picked_adds : (w : Window) (s : Selection) (ps : List ℕ) (out : List ℕ) (acc : Accumulator) (out' : List ℕ) (acc' : Accumulator) → ps ≡ positions s → Adds (map (window_bit w) ps) out acc out' acc' → Adds (picked_bits w s) out acc out' acc'
-picked_adds w s ps out acc out' acc' e a = subst (λ t. Adds (map (window_bit w) t) out acc out' acc') e a
+pub picked_adds : (w : Window) (s : Selection) (ps : List ℕ) (acc acc' : Accumulator) → ps ≡ positions s → Adds (map (window_bit w) ps) acc acc' → Adds (picked_bits w s) acc acc'
+picked_adds w s ps acc acc' e a = subst (λ t. Adds (map (window_bit w) t) acc acc') e a
 
 -- the first thing that stands against a call
 module _ (w : Window) (s : Selection) (places : ℕ) where

@@ -1,12 +1,12 @@
 -- Bits in bytes, and what an accumulator adds to them.
-use Rattle.std.proofs.Common.{◌≡◌, ℕ, zero, suc, ◌+◌, ◌-◌, ◌*◌, ◌/◌, ◌%◌, ◌^◌, ◌<◌, ◌≤◌, Bool, List, [], ◌∷◌, ◌++◌, length, take, drop, set, sym, refl, ap, ◌∙◌, subst, ap₂, lt_of_lt_of_le, add-zero, mod-eq_of_lt, mul_assoc, suc-add, arith, pow_pos, pow_mono, pow-add, shr-shr, shr_lt}
+use Rattle.std.proofs.Common.{◌≡◌, ℕ, zero, suc, ◌+◌, ◌-◌, ◌*◌, ◌/◌, ◌%◌, ◌^◌, ◌<◌, ◌≤◌, Bool, List, [], ◌∷◌, ◌++◌, length, take, drop, sym, refl, ap, ◌∙◌, subst, ap₂, lt_of_lt_of_le, add-zero, mod-eq_of_lt, mul_assoc, suc-add, arith, pow_pos, pow_mono, pow-add, shr-shr, shr_lt, MutBor}
 use native.Mathlib.Nat.{div-div-eq-div-mul, mul-add-div_right}
 use lib.Bits.{bit_or}
 use lib.Pow.{high, low, mod-pow-add, shl-shr, split}
 use Rattle.std.proofs.lemmas.Nat.{or_comm, or_shifted}
-use Rattle.std.proofs.lemmas.List.{append_assoc, append-nil, drop-drop, length-append}
+use Rattle.std.proofs.lemmas.List.{append_assoc, append-nil, drop-drop, length-append, take_at}
 use Rattle.kernels.specs.Moved.{splice}
-use Rattle.kernels.proofs.Gathered.{length_splice, splice_more, splice_none, splice_splice}
+use Rattle.kernels.proofs.Gathered.{length_splice, splice_none, splice_splice}
 use Rattle.slices.specs.declared.accumulator.Accumulator.{Accumulator}
 use Rattle.slices.specs.Bits.{bit_bytes, bytes_for, low_bytes, packed}
 use Rattle.slices.specs.Accumulated.{Adds, Holds, Room}
@@ -43,9 +43,11 @@ low_above (suc n) y x =
 pub low_mod : (n x : ℕ) → low_bytes n (x % 2 ^ (8 * n)) ≡ low_bytes n x
 low_mod n x = sym (low_above n (x / 2 ^ (8 * n)) (x % 2 ^ (8 * n))) ∙ ap (low_bytes n) (split x (8 * n))
 
--- one byte more
-pub low_more : (n x : ℕ) → low_bytes (n + 1) x ≡ low_bytes n x ++ (x / 2 ^ (8 * n) % 256 ∷ [])
-low_more n x = low_split n 1 x
+pub low_take : (n k x : ℕ) → n ≤ k → take n (low_bytes k x) ≡ low_bytes n x
+low_take n k x h =
+    let m : ℕ = k - n in
+    let on : n + m ≡ k = omega arith in
+    ap (λ j. take n (low_bytes j x)) (sym on) ∙ ap (take n) (low_split n m x) ∙ take_at (low_bytes n x) (low_bytes m (x / 2 ^ (8 * n))) n (length_low n x)
 
 pub le_bytes : (x : ℕ) → (x % 256 ∷ x / 256 % 256 ∷ x / 65536 % 256 ∷ x / 16777216 % 256 ∷ x / 4294967296 % 256 ∷ x / 1099511627776 % 256 ∷ x / 281474976710656 % 256 ∷ x / 72057594037927936 % 256 ∷ []) ≡ low_bytes 8 x
 le_bytes x = simp div-div-eq-div-mul
@@ -78,7 +80,7 @@ past_word l x f h below =
     shr-shr x 1 (63 - f) ∙ ap (λ t. x / 2 ^ t) one ∙ ap (λ t. t / 2 ^ s) (sym (high x f below)) ∙ shr-shr (x * 2 ^ f + l) f s ∙ ap (λ t. (x * 2 ^ f + l) / 2 ^ t) on
 
 -- bits xs, which make x, come after those that are held
-module _ (bs xs : List Bool) (before out : List ℕ) (acc : Accumulator) (x n : ℕ) (h : Holds bs before out acc) (size : length xs ≡ n) (is : packed xs ≡ x) where
+module _ (bs xs : List Bool) (before : List ℕ) (acc : Accumulator) (x n : ℕ) (h : Holds bs before acc) (size : length xs ≡ n) (is : packed xs ≡ x) where
   both : packed (bs ++ xs) ≡ x * 2 ^ acc.fill * 2 ^ (8 * acc.at) + packed bs
   both =
       let turn : length bs ≡ acc.fill + 8 * acc.at = let e = h.count in omega arith in
@@ -102,7 +104,7 @@ module _ (bs xs : List Bool) (before out : List ℕ) (acc : Accumulator) (x n : 
   same_bytes = ap (low_bytes acc.at) both ∙ low_above acc.at (x * 2 ^ acc.fill) (packed bs)
 
   -- they fit
-  pub adds_within : acc.fill + n < 64 → Holds (bs ++ xs) before out (record { low = bit_or acc.low ((x * 2 ^ acc.fill) % 2 ^ 64); fill = acc.fill + n; at = acc.at })
+  pub adds_within : acc.fill + n < 64 → Holds (bs ++ xs) before (record { out = acc.out; low = bit_or acc.low ((x * 2 ^ acc.fill) % 2 ^ 64); fill = acc.fill + n; at = acc.at })
   adds_within l =
       let c = size_both in
       record {
@@ -113,15 +115,15 @@ module _ (bs xs : List Bool) (before out : List ℕ) (acc : Accumulator) (x n : 
         low = or_word acc.low x acc.fill h.fill few ∙ mod-eq_of_lt (lt_of_lt_of_le less (pow_mono {j = 64} (omega arith))) ∙ sym total;
       }
 
-  held_length : length out ≡ length before
+  held_length : length acc.out.now ≡ length before
   held_length =
       let i = h.inside in
       let e = length_low acc.at (packed bs) in
       ap length h.written ∙ length_splice before 0 (low_bytes acc.at (packed bs)) (omega arith)
 
   -- 64 are full
-  pub adds_past : (out' : List ℕ) → n ≤ 64 → 64 ≤ acc.fill + n → 8 * acc.at + acc.fill + n ≤ 8 * length out → out' ≡ splice out acc.at (low_bytes 8 (bit_or acc.low ((x * 2 ^ acc.fill) % 2 ^ 64))) → Holds (bs ++ xs) before out' (record { low = x / 2 / 2 ^ (63 - acc.fill); fill = acc.fill + n - 64; at = acc.at + 8 })
-  adds_past out' m l room e =
+  pub adds_past : (out : MutBor (List ℕ)) → n ≤ 64 → 64 ≤ acc.fill + n → 8 * acc.at + acc.fill + n ≤ 8 * length acc.out.now → out.now ≡ splice acc.out.now acc.at (low_bytes 8 (bit_or acc.low ((x * 2 ^ acc.fill) % 2 ^ 64))) → Holds (bs ++ xs) before (record { out = out; low = x / 2 / 2 ^ (63 - acc.fill); fill = acc.fill + n - 64; at = acc.at + 8 })
+  adds_past out m l room e =
       let c = size_both in
       let f = h.fill in
       let long = held_length in
@@ -142,9 +144,9 @@ module _ (bs xs : List Bool) (before out : List ℕ) (acc : Accumulator) (x n : 
       }
 
 -- what is left of the bits that are held is written
-pub ends_all : (bs : List Bool) (before out out' : List ℕ) (acc : Accumulator) → Holds bs before out acc → out' ≡ splice out acc.at (low_bytes (bytes_for acc.fill) acc.low) → out' ≡ splice before 0 (bit_bytes bs)
+pub ends_all : (bs : List Bool) (before out : List ℕ) (acc : Accumulator) → Holds bs before acc → out ≡ splice acc.out.now acc.at (low_bytes (bytes_for acc.fill) acc.low) → out ≡ splice before 0 (bit_bytes bs)
 unfolding bit_bytes
-ends_all bs before out out' acc h e =
+ends_all bs before out acc h e =
     let a = acc.at in
     let p = packed bs in
     let c = h.count in
@@ -156,39 +158,35 @@ ends_all bs before out out' acc h e =
     ∙ splice_splice before 0 a (low_bytes a p) (low_bytes (bytes_for acc.fill) (p / 2 ^ (8 * a))) (length_low a p) (omega arith)
     ∙ ap (splice before 0) (sym (low_split a (bytes_for acc.fill) p) ∙ ap (λ n. low_bytes n p) all)
 
--- one byte more of what is left
-pub end_more : (out : List ℕ) (at k low : ℕ) → at + k < length out → set (splice out at (low_bytes k low)) (at + k) (low / 2 ^ (8 * k) % 256) ≡ splice out at (low_bytes (k + 1) low)
-end_more out at k low h = splice_more out at k (low_bytes k low) (low / 2 ^ (8 * k) % 256) (length_low k low) h ∙ ap (splice out at) (sym (low_more k low))
-
 -- nothing is held at first
-pub holds_none : (before : List ℕ) (acc : Accumulator) → acc.low ≡ 0 → acc.fill ≡ 0 → acc.at ≡ 0 → Holds [] before before acc
-holds_none before acc l f a =
+pub holds_none : (before : List ℕ) (acc : Accumulator) → acc.out.now ≡ before → acc.low ≡ 0 → acc.fill ≡ 0 → acc.at ≡ 0 → Holds [] before acc
+holds_none before acc o l f a =
     let e : acc.low ≡ 0 / 2 ^ (8 * acc.at) = l ∙ ap (λ t. 0 / 2 ^ (8 * t)) (sym a) in
-    record { fill = omega arith; count = omega arith; inside = omega arith; written = sym (splice_none before 0) ∙ ap (λ n. splice before 0 (low_bytes n 0)) (sym a); low = e }
+    record { fill = omega arith; count = omega arith; inside = omega arith; written = o ∙ sym (splice_none before 0) ∙ ap (λ n. splice before 0 (low_bytes n 0)) (sym a); low = e }
 
-pub adds_none : (out : List ℕ) (acc : Accumulator) → acc.fill < 64 → Adds [] out acc out acc
-adds_none out acc h = record { fill = h; count = omega arith; long = refl; holds = λ bs before e. subst (λ t. Holds t before out acc) (sym (append-nil bs)) e }
+pub adds_none : (acc : Accumulator) → acc.fill < 64 → Adds [] acc acc
+adds_none acc h = record { same = refl; fill = h; count = omega arith; long = refl; holds = λ bs before e. subst (λ t. Holds t before acc) (sym (append-nil bs)) e }
 
-pub adds_both : (xs ys : List Bool) (out₀ out₁ out₂ : List ℕ) (acc₀ acc₁ acc₂ : Accumulator) → Adds xs out₀ acc₀ out₁ acc₁ → Adds ys out₁ acc₁ out₂ acc₂ → Adds (xs ++ ys) out₀ acc₀ out₂ acc₂
-adds_both xs ys out₀ out₁ out₂ acc₀ acc₁ acc₂ a b =
+pub adds_both : (xs ys : List Bool) (acc₀ acc₁ acc₂ : Accumulator) → Adds xs acc₀ acc₁ → Adds ys acc₁ acc₂ → Adds (xs ++ ys) acc₀ acc₂
+adds_both xs ys acc₀ acc₁ acc₂ a b =
     let m = a.count in
     let n = b.count in
     let s = length-append xs ys in
-    record { fill = b.fill; count = omega arith; long = b.long ∙ a.long; holds = λ bs before h. subst (λ t. Holds t before out₂ acc₂) (append_assoc bs xs ys) (b.holds (bs ++ xs) before (a.holds bs before h)) }
+    record { same = b.same ∙ a.same; fill = b.fill; count = omega arith; long = b.long ∙ a.long; holds = λ bs before h. subst (λ t. Holds t before acc₂) (append_assoc bs xs ys) (b.holds (bs ++ xs) before (a.holds bs before h)) }
 
 -- of the bits to add, some have been added and the rest are left
-pub record Going (all rest : List Bool) (out₀ : List ℕ) (acc₀ : Accumulator) (out : List ℕ) (acc : Accumulator) : Type 0 where
+pub record Going (all rest : List Bool) (acc₀ acc : Accumulator) : Type 0 where
   pub so_far : List Bool
-  pub adds : Adds so_far out₀ acc₀ out acc
+  pub adds : Adds so_far acc₀ acc
   pub whole : so_far ++ rest ≡ all
 
-pub going_start : (all rest : List Bool) (out : List ℕ) (acc : Accumulator) → acc.fill < 64 → rest ≡ all → Going all rest out acc out acc
-going_start all rest out acc h e = record { so_far = []; adds = adds_none out acc h; whole = e }
+pub going_start : (all rest : List Bool) (acc : Accumulator) → acc.fill < 64 → rest ≡ all → Going all rest acc acc
+going_start all rest acc h e = record { so_far = []; adds = adds_none acc h; whole = e }
 
-pub going_same : {all rest : List Bool} {out₀ out : List ℕ} {acc₀ acc : Accumulator} (rest' : List Bool) → rest ≡ rest' → Going all rest out₀ acc₀ out acc → Going all rest' out₀ acc₀ out acc
+pub going_same : {all rest : List Bool} {acc₀ acc : Accumulator} (rest' : List Bool) → rest ≡ rest' → Going all rest acc₀ acc → Going all rest' acc₀ acc
 going_same rest' e g = record { so_far = g.so_far; adds = g.adds; whole = ap (λ t. g.so_far ++ t) (sym e) ∙ g.whole }
 
-pub going_room : {all : List Bool} {out₀ out : List ℕ} {acc₀ acc : Accumulator} (xs rest : List Bool) → Going all (xs ++ rest) out₀ acc₀ out acc → Room out₀ acc₀ (length all) → Room out acc (length xs)
+pub going_room : {all : List Bool} {acc₀ acc : Accumulator} (xs rest : List Bool) → Going all (xs ++ rest) acc₀ acc → Room acc₀ (length all) → Room acc (length xs)
 going_room {all = all} xs rest g r =
     let a = length-append g.so_far (xs ++ rest) in
     let b = length-append xs rest in
@@ -198,8 +196,8 @@ going_room {all = all} xs rest g r =
     let m = r.enough in
     record { fill = g.adds.fill; enough = omega arith }
 
-pub going_turn : {all : List Bool} {out₀ out : List ℕ} {acc₀ acc : Accumulator} (xs rest : List Bool) (out' : List ℕ) (acc' : Accumulator) → Going all (xs ++ rest) out₀ acc₀ out acc → Adds xs out acc out' acc' → Going all rest out₀ acc₀ out' acc'
-going_turn {out₀ = out₀} {out = out} {acc₀ = acc₀} {acc = acc} xs rest out' acc' g a = record { so_far = g.so_far ++ xs; adds = adds_both g.so_far xs out₀ out out' acc₀ acc acc' g.adds a; whole = append_assoc g.so_far xs rest ∙ g.whole }
+pub going_turn : {all : List Bool} {acc₀ acc : Accumulator} (xs rest : List Bool) (acc' : Accumulator) → Going all (xs ++ rest) acc₀ acc → Adds xs acc acc' → Going all rest acc₀ acc'
+going_turn {acc₀ = acc₀} {acc = acc} xs rest acc' g a = record { so_far = g.so_far ++ xs; adds = adds_both g.so_far xs acc₀ acc acc' g.adds a; whole = append_assoc g.so_far xs rest ∙ g.whole }
 
-pub going_done : {all : List Bool} {out₀ out : List ℕ} {acc₀ acc : Accumulator} → Going all [] out₀ acc₀ out acc → Adds all out₀ acc₀ out acc
-going_done {out₀ = out₀} {out = out} {acc₀ = acc₀} {acc = acc} g = subst (λ t. Adds t out₀ acc₀ out acc) (sym (append-nil g.so_far) ∙ g.whole) g.adds
+pub going_done : {all : List Bool} {acc₀ acc : Accumulator} → Going all [] acc₀ acc → Adds all acc₀ acc
+going_done {acc₀ = acc₀} {acc = acc} g = subst (λ t. Adds t acc₀ acc) (sym (append-nil g.so_far) ∙ g.whole) g.adds

@@ -15,7 +15,7 @@ use Rattle.kernels.specs.declared.slice.MaskBits.TheVariants.{Window as Framed}
 use Rattle.kernels.proofs.Masked.{counting_split, kept_inside, left_word, left_of, bits_of_window, window_mask}
 use Rattle.kernels.proofs.SetBits.{all_bits, bits_by_test, bits_moved}
 use Rattle.slices.specs.Bits.{packed, pext}
-use Rattle.slices.proofs.Formed.{run_parts}
+use Rattle.kernels.proofs.InRuns.{run_parts}
 use Rattle.slices.proofs.Extracts.{bits_own, pext_is}
 use Rattle.slices.proofs.Packed.{packed_bit, packed_lt}
 

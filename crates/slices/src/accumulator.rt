@@ -1,25 +1,29 @@
 //! Bits, one after another, written out as bytes.
-ghost use Rattle.std.specs.Prelude.{◌≡◌, ◌+◌, ◌*◌, ◌<◌, ◌≤◌, Bool, List, length};
+ghost use Rattle.std.specs.Prelude.{◌≡◌, ◌+◌, ◌<◌, ◌≤◌, Bool, List, length};
 ghost use Rattle.kernels.specs.Moved.{splice};
 ghost use Rattle.slices.specs.Bits.{bytes_for, low_bytes, packed};
 ghost use Rattle.slices.specs.Accumulated.{Adds, Ends, Room};
 
-/// The bits that are not written yet, how many, and the next byte to write.
-#[derive(Clone, Copy)]
-pub(crate) struct Accumulator {
+/// Bytes to write, the bits that are not written yet, how many, and the next byte.
+#[derive(Drop)]
+pub(crate) struct Accumulator<'a> {
+    out: &'a mut [u8],
     low: u64,
     fill: u32,
     at: usize,
 }
 
-impl Accumulator {
-    /// No bits.
-    pub(crate) fn new() -> Accumulator
+impl<'a> Accumulator<'a> {
+    /// No bits, before the first of some bytes.
+    pub(crate) fn new(out: &'a mut [u8]) -> Accumulator<'a>
+        ensures same { result.out.ghost_name ≡ out.entry.ghost_name }
+        ensures before { result.out.now ≡ out.old }
         ensures low { result.low ≡ 0 }
         ensures fill { result.fill ≡ 0 }
         ensures at { result.at ≡ 0 }
     {
         Accumulator {
+            out,
             low: 0,
             fill: 0,
             at: 0,
@@ -27,10 +31,10 @@ impl Accumulator {
     }
 
     /// Appends the low `n` bits of `x`, and writes 64 once they are full.
-    pub(crate) fn append(&mut self, out: &mut [u8], x: u64, n: u32)
+    pub(crate) fn append(&mut self, x: u64, n: u32)
         requires size { n ≤ 64 }
-        requires room { Room out.old self.old n }
-        ensures { (xs : List Bool) → length xs ≡ n → packed xs ≡ x → Adds xs out.old self.old out.new self.new }
+        requires room { Room self.old n }
+        ensures { (xs : List Bool) → length xs ≡ n → packed xs ≡ x → Adds xs self.old self.new }
     {
         let word = self.low | (x << self.fill);
         let all = self.fill + n;
@@ -38,7 +42,7 @@ impl Accumulator {
             self.low = word;
             self.fill = all;
         } else {
-            store(out, self.at, word);
+            store(self.out, self.at, word, 8);
             self.low = (x >> 1) >> (63 - self.fill);
             self.fill = all - 64;
             self.at += 8;
@@ -46,21 +50,21 @@ impl Accumulator {
     }
 
     /// Writes what is left, with 0 up to the end of the last byte.
-    pub(crate) fn finish(self, out: &mut [u8])
+    pub(crate) fn finish(self)
         requires fill { self.fill < 64 }
-        requires room { self.at + bytes_for self.fill ≤ length out.old }
-        ensures { Ends out.old self out.new }
+        requires room { self.at + bytes_for self.fill ≤ length self.out.now }
+        ensures { Ends self.entry self.exit.0.now }
     {
-        for k in 0..self.fill.div_ceil(8) {
-            out[self.at + k as usize] = ((self.low >> (8 * k)) % 256) as u8;
-        }
+        let Accumulator { out, low, fill, at } = self;
+        store(out, at, low, fill.div_ceil(8) as usize);
     }
 }
 
-/// Writes eight bytes, the lowest first.
-fn store(out: &mut [u8], at: usize, word: u64)
-    requires { at + 8 ≤ length out.old }
-    ensures { out.new ≡ splice out.old at (low_bytes 8 word) }
+/// Writes the `n` lowest bytes of a word, the lowest first.
+fn store(out: &mut [u8], at: usize, word: u64, n: usize)
+    requires size { n ≤ 8 }
+    requires room { at + n ≤ length out.old }
+    ensures { out.new ≡ splice out.old at (low_bytes n word) }
 {
-    out[at..at + 8].copy_from_slice(&word.to_le_bytes());
+    out[at..at + n].copy_from_slice(&word.to_le_bytes()[..n]);
 }

@@ -43,85 +43,80 @@ fn write_selected(source: Window<'_>, selection: Selection<'_>, out: &mut [u8])
     requires room { bytes_for (count_of selection) ≤ length out.old }
     ensures { out.new ≡ splice out.old 0 (bit_bytes (picked_bits source.entry selection.entry)) }
 {
-    let mut acc = Accumulator::new();
-    append_selected(source, selection, &mut acc, out);
-    acc.finish(out);
+    let mut acc = Accumulator::new(out);
+    append_selected(source, selection, &mut acc);
+    acc.finish();
 }
 
 /// Appends the selected bits.
-fn append_selected(
-    source: Window<'_>,
-    selection: Selection<'_>,
-    acc: &mut Accumulator,
-    out: &mut [u8],
-)
+fn append_selected(source: Window<'_>, selection: Selection<'_>, acc: &mut Accumulator<'_>)
     requires formed { selection_fault selection ≡ None }
     requires same { extent selection ≡ source.len }
-    requires room { Room out.old acc.old (count_of selection) }
-    ensures { Adds (picked_bits source.entry selection.entry) out.old acc.old out.new acc.new }
+    requires room { Room acc.old (count_of selection) }
+    ensures { Adds (picked_bits source.entry selection.entry) acc.old acc.new }
 {
     match selection {
-        Selection::Bitmap(window) => append_window(source, window, acc, out),
-        Selection::Indices { indices, len: _ } => append_indices(source, indices, acc, out),
-        Selection::Runs { runs, len: _ } => append_runs(source, runs, acc, out),
+        Selection::Bitmap(window) => append_window(source, window, acc),
+        Selection::Indices { indices, len: _ } => append_indices(source, indices, acc),
+        Selection::Runs { runs, len: _ } => append_runs(source, runs, acc),
     }
 }
 
 /// Appends the bits at the set bits of a window, word by word.
-fn append_window(source: Window<'_>, window: Window<'_>, acc: &mut Accumulator, out: &mut [u8])
+fn append_window(source: Window<'_>, window: Window<'_>, acc: &mut Accumulator<'_>)
     requires same { window.len ≡ source.len }
-    requires room { Room out.old acc.old (length (window_positions window)) }
-    ensures { Adds (map (window_bit source.entry) (window_positions window.entry)) out.old acc.old out.new acc.new }
+    requires room { Room acc.old (length (window_positions window)) }
+    ensures { Adds (map (window_bit source.entry) (window_positions window.entry)) acc.old acc.new }
 {
     for k in 0..window.len.div_ceil(64) {
-        append_word(source.word(k), window.word(k), acc, out);
+        append_word(source.word(k), window.word(k), acc);
     }
 }
 
 /// Appends the bits of a word at the set bits of a mask.
-fn append_word(word: u64, mask: u64, acc: &mut Accumulator, out: &mut [u8])
-    requires { Room out.old acc.old (length (set_bits 64 mask 0)) }
-    ensures { Adds (map (bit_of word) (set_bits 64 mask 0)) out.old acc.old out.new acc.new }
+fn append_word(word: u64, mask: u64, acc: &mut Accumulator<'_>)
+    requires { Room acc.old (length (set_bits 64 mask 0)) }
+    ensures { Adds (map (bit_of word) (set_bits 64 mask 0)) acc.old acc.new }
 {
     if mask == u64::MAX {
-        acc.append(out, word, 64);
+        acc.append(word, 64);
     } else if mask != 0 {
-        acc.append(out, pext_fallback(word, mask), mask.count_ones());
+        acc.append(pext_fallback(word, mask), mask.count_ones());
     }
 }
 
 /// Appends the bits at some positions, one by one.
-fn append_indices(source: Window<'_>, indices: &[u64], acc: &mut Accumulator, out: &mut [u8])
+fn append_indices(source: Window<'_>, indices: &[u64], acc: &mut Accumulator<'_>)
     requires inside { Inside source.len indices.now }
-    requires room { Room out.old acc.old (length indices.now) }
-    ensures { Adds (map (window_bit source.entry) indices.now) out.old acc.old out.new acc.new }
+    requires room { Room acc.old (length indices.now) }
+    ensures { Adds (map (window_bit source.entry) indices.now) acc.old acc.new }
 {
-    for k in 0..indices.len() {
-        acc.append(out, source.bits(indices[k], 1), 1);
+    for index in indices {
+        acc.append(source.bits(*index, 1), 1);
     }
 }
 
 /// Appends the bits of some runs.
-fn append_runs(source: Window<'_>, runs: &[Run], acc: &mut Accumulator, out: &mut [u8])
+fn append_runs(source: Window<'_>, runs: &[Run], acc: &mut Accumulator<'_>)
     requires rise { RunsRise 0 source.len runs.now }
-    requires room { Room out.old acc.old (length (flat_map range runs.now)) }
-    ensures { Adds (map (window_bit source.entry) (flat_map range runs.now)) out.old acc.old out.new acc.new }
+    requires room { Room acc.old (length (flat_map range runs.now)) }
+    ensures { Adds (map (window_bit source.entry) (flat_map range runs.now)) acc.old acc.new }
 {
-    for k in 0..runs.len() {
-        append_run(source, runs[k], acc, out);
+    for run in runs {
+        append_run(source, *run, acc);
     }
 }
 
 /// Appends the bits of a run, up to 64 at a time.
-fn append_run(source: Window<'_>, run: Run, acc: &mut Accumulator, out: &mut [u8])
+fn append_run(source: Window<'_>, run: Run, acc: &mut Accumulator<'_>)
     requires some { run.start < run.«end» }
     requires inside { run.«end» ≤ source.len }
-    requires room { Room out.old acc.old (length (range run)) }
-    ensures { Adds (map (window_bit source.entry) (range run)) out.old acc.old out.new acc.new }
+    requires room { Room acc.old (length (range run)) }
+    ensures { Adds (map (window_bit source.entry) (range run)) acc.old acc.new }
 {
     let len = run.end - run.start;
     for k in 0..len.div_ceil(64) {
         let n = (len - 64 * k).min(64);
-        acc.append(out, source.bits(run.start + 64 * k, n), n as u32);
+        acc.append(source.bits(run.start + 64 * k, n), n as u32);
     }
 }

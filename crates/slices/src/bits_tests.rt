@@ -1,18 +1,10 @@
 //! Bits picked by examples.
 use super::bits::filter_bitbuffer_by_mask;
 use super::pext::pext_fallback;
-use selection::{Refusal, Run, Selection, Window};
+use selection::{Run, Selection, Window};
 
 fn window(bytes: &[u8], start: u64, len: u64) -> Window<'_> {
     Window { bytes, start, len }
-}
-
-/// The number and the place of a refusal.
-fn refused(answer: Result<u64, Refusal>) -> Option<(u8, u64)> {
-    match answer {
-        Ok(_) => None,
-        Err(refusal) => Some((refusal.number(), refusal.place())),
-    }
 }
 
 #[test]
@@ -30,8 +22,8 @@ fn picks_by_a_bitmap(rt: HostRuntime) {
     let mut out = [0xFF, 0xFF];
     let mask = Selection::Bitmap(window(&[0x5A], 0, 8));
     assert_eq!(rt;
-        filter_bitbuffer_by_mask(window(&[0xB2], 0, 8), mask, &mut out).ok(),
-        Some(4)
+        filter_bitbuffer_by_mask(window(&[0xB2], 0, 8), mask, &mut out),
+        Ok(4)
     );
     assert_eq!(rt; out, [5, 0xFF]);
 }
@@ -41,8 +33,8 @@ fn picks_from_a_bit_inside_a_byte(rt: HostRuntime) {
     let mut out = [0xFF];
     let mask = Selection::Bitmap(window(&[0xD0, 0x02], 3, 8));
     assert_eq!(rt;
-        filter_bitbuffer_by_mask(window(&[0x90, 0x05], 3, 8), mask, &mut out).ok(),
-        Some(4)
+        filter_bitbuffer_by_mask(window(&[0x90, 0x05], 3, 8), mask, &mut out),
+        Ok(4)
     );
     assert_eq!(rt; out, [5]);
 }
@@ -55,8 +47,8 @@ fn picks_by_indices(rt: HostRuntime) {
         len: 8,
     };
     assert_eq!(rt;
-        filter_bitbuffer_by_mask(window(&[0xB2], 0, 8), list, &mut out).ok(),
-        Some(4)
+        filter_bitbuffer_by_mask(window(&[0xB2], 0, 8), list, &mut out),
+        Ok(4)
     );
     assert_eq!(rt; out, [5]);
 }
@@ -70,8 +62,8 @@ fn picks_by_runs(rt: HostRuntime) {
     };
     let bytes = [2, 0, 0, 0, 0, 0, 0, 0, 0xFF];
     assert_eq!(rt;
-        filter_bitbuffer_by_mask(window(&bytes, 0, 72), list, &mut out).ok(),
-        Some(70)
+        filter_bitbuffer_by_mask(window(&bytes, 0, 72), list, &mut out),
+        Ok(70)
     );
     assert_eq!(rt; out, [1, 0, 0, 0, 0, 0, 0, 0x80, 0x3F]);
 }
@@ -84,13 +76,19 @@ fn refuses_and_writes_nothing(rt: HostRuntime) {
         len: 8,
     };
     assert_eq!(rt;
-        refused(filter_bitbuffer_by_mask(window(&[0xB2], 0, 8), list, &mut out)),
-        Some((3, 1))
+        filter_bitbuffer_by_mask(window(&[0xB2], 0, 8), list, &mut out).map_err(|refusal| (
+            refusal.number(),
+            refusal.place()
+        )),
+        Err((3, 1))
     );
     let mask = Selection::Bitmap(window(&[0x5A], 0, 7));
     assert_eq!(rt;
-        refused(filter_bitbuffer_by_mask(window(&[0xB2], 0, 8), mask, &mut out)),
-        Some((8, 0))
+        filter_bitbuffer_by_mask(window(&[0xB2], 0, 8), mask, &mut out).map_err(|refusal| (
+            refusal.number(),
+            refusal.place()
+        )),
+        Err((8, 0))
     );
     assert_eq!(rt; out, [0xAA]);
 }

@@ -1,14 +1,13 @@
 //! Selected elements of a slice, copied to another.
-ghost use Rattle.std.specs.Prelude.{◌≡◌, ◌≤◌, length, None};
-ghost use Rattle.std.specs.List.{flat_map};
+ghost use Rattle.std.specs.Prelude.{◌≡◌, length, None};
 ghost use Rattle.selection.specs.Refusals.{answered, settled};
-ghost use Rattle.selection.specs.Selected.{RunsRise, count_of, positions, range};
+ghost use Rattle.selection.specs.Selected.{count_of, positions};
 ghost use Rattle.kernels.specs.Masks.{compacted};
 ghost use Rattle.slices.specs.Slices.{copy_fault};
 
 use super::admit::admit_copy;
-use kernels::{Element, MaskBits, compact_bits, copy_at, copy_to};
-use selection::{Refusal, Run, Selection};
+use kernels::{Element, MaskBits, compact_bits, copy_at, copy_runs};
+use selection::{Refusal, Selection};
 
 /// Copies the selected elements of `values` to the first places of `out`, and answers how many there are;
 /// or refuses, and leaves `out` as it was.
@@ -40,20 +39,5 @@ fn copy_selected<T: Element>(values: &[T], selection: Selection<'_>, count: u64,
         Selection::Runs { runs, len: _ } => {
             copy_runs(values, runs, out);
         }
-    }
-}
-
-/// Copies the elements of ascending runs, run by run, to the first places of `out`.
-fn copy_runs<T: Copy>(values: &[T], runs: &[Run], out: &mut [T])
-    requires rising { RunsRise 0 (length values.now) runs.now }
-    requires room { length (flat_map range runs.now) ≤ length out.old }
-    ensures { out.new ≡ compacted values.now (flat_map range runs.now) out.old }
-{
-    let mut pos = 0;
-    for k in 0..runs.len() {
-        let run = runs[k];
-        let n = (run.end - run.start) as usize;
-        copy_to(values, run.start as usize, n, out, pos);
-        pos += n;
     }
 }

@@ -1,15 +1,13 @@
 //! Selected elements of a slice, moved to its first places.
-ghost use Rattle.std.specs.Prelude.{◌≡◌, ◌+◌, ◌≤◌, length, take, drop, None};
-ghost use Rattle.std.specs.List.{flat_map};
+ghost use Rattle.std.specs.Prelude.{◌≡◌, length, None};
 ghost use Rattle.selection.specs.Refusals.{answered, settled};
-ghost use Rattle.selection.specs.Selected.{Rising, RunsRise, count_of, positions, range};
-ghost use Rattle.kernels.specs.Moved.{gather, splice};
-ghost use Rattle.kernels.specs.Masks.{Masks, compacted, selected_by, set_bits};
+ghost use Rattle.selection.specs.Selected.{count_of, positions};
+ghost use Rattle.kernels.specs.Masks.{compacted};
 ghost use Rattle.slices.specs.Slices.{place_fault};
 
 use super::admit::admit_in_place;
-use kernels::{Element, MaskBits};
-use selection::{Refusal, Run, Selection};
+use kernels::{Element, MaskBits, move_at, move_by_bitmap, move_runs};
+use selection::{Refusal, Selection};
 
 /// Moves the selected elements of `values` to its first places, in order, and answers how many there are;
 /// all other places keep theirs. Or refuses, and leaves all as it was.
@@ -32,99 +30,13 @@ fn move_selected<T: Element>(values: &mut [T], selection: Selection<'_>)
 {
     match selection {
         Selection::Bitmap(window) => {
-            move_bits(values, MaskBits::Window(window));
+            move_by_bitmap(values, MaskBits::Window(window));
         }
         Selection::Indices { indices, len: _ } => {
-            move_indices(values, indices);
+            move_at(values, indices);
         }
         Selection::Runs { runs, len: _ } => {
             move_runs(values, runs);
         }
-    }
-}
-
-/// Moves the elements that a mask selects to the first places, word by word.
-fn move_bits<T: Copy>(values: &mut [T], bits: MaskBits<'_>)
-    requires { Masks bits (length values.old) }
-    ensures { values.new ≡ compacted values.old (selected_by bits.entry) values.old }
-{
-    let mut pos = 0;
-    for k in 0..bits.words() {
-        pos = move_word(values, bits.word(k), 64 * k, pos);
-    }
-}
-
-/// Moves the elements at the set bits of a word, whose lowest bit stands for `base`, to `pos` and on: all 64 as a block.
-fn move_word<T: Copy>(values: &mut [T], word: u64, base: usize, pos: usize) -> usize
-    requires { Rising pos (length values.old) (set_bits 64 word base) }
-    ensures count { result ≡ pos + length (set_bits 64 word base) }
-    ensures written { values.new ≡ splice values.old pos (gather values.old (set_bits 64 word base)) }
-{
-    if word == u64::MAX {
-        move_block(values, base, 64, pos);
-        return pos + 64;
-    }
-    move_ones(values, word, base, pos)
-}
-
-/// Moves the elements at the set bits of a word to `pos` and on, one by one.
-fn move_ones<T: Copy>(values: &mut [T], word: u64, base: usize, pos: usize) -> usize
-    requires { Rising pos (length values.old) (set_bits 64 word base) }
-    ensures count { result ≡ pos + length (set_bits 64 word base) }
-    ensures written { values.new ≡ splice values.old pos (gather values.old (set_bits 64 word base)) }
-{
-    let mut at = pos;
-    let mut m = word;
-    while m != 0 {
-        values[at] = values[base + m.trailing_zeros() as usize];
-        at += 1;
-        m &= m - 1;
-    }
-    at
-}
-
-/// Moves the elements at ascending indices to the first places.
-fn move_indices<T: Copy>(values: &mut [T], indices: &[u64])
-    requires { Rising 0 (length values.old) indices.now }
-    ensures { values.new ≡ compacted values.old indices.now values.old }
-{
-    for place in 0..indices.len() {
-        values[place] = values[indices[place] as usize];
-    }
-}
-
-/// Moves the elements of ascending runs to the first places, run by run.
-fn move_runs<T: Copy>(values: &mut [T], runs: &[Run])
-    requires { RunsRise 0 (length values.old) runs.now }
-    ensures { values.new ≡ compacted values.old (flat_map range runs.now) values.old }
-{
-    let mut pos = 0;
-    for k in 0..runs.len() {
-        let run = runs[k];
-        let n = (run.end - run.start) as usize;
-        move_block(values, run.start as usize, n, pos);
-        pos += n;
-    }
-}
-
-/// Moves `n` elements down to a place, where they do not stand there already.
-fn move_block<T: Copy>(values: &mut [T], from: usize, n: usize, to: usize)
-    requires down { to ≤ from }
-    requires inside { from + n ≤ length values.old }
-    ensures { values.new ≡ splice values.old to (take n (drop from values.old)) }
-{
-    if to != from {
-        move_down(values, from, n, to);
-    }
-}
-
-/// Moves `n` elements down to a place, the first of them first.
-fn move_down<T: Copy>(values: &mut [T], from: usize, n: usize, to: usize)
-    requires down { to ≤ from }
-    requires inside { from + n ≤ length values.old }
-    ensures { values.new ≡ splice values.old to (take n (drop from values.old)) }
-{
-    for k in 0..n {
-        values[to + k] = values[from + k];
     }
 }

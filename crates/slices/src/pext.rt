@@ -24,10 +24,9 @@ pub fn pext_fallback(src: u64, mask: u64) -> u64
 {
     let mut all = 0;
     let mut done = 0;
-    for b in 0..8u32 {
-        let byte = ((mask >> (8 * b)) % 256) as u8;
-        all |= pext_byte(src >> (8 * b), byte) << done;
-        done += u32::from(table_entry(byte, 8));
+    for (b, byte) in mask.to_le_bytes().iter().enumerate() {
+        all |= pext_byte(src >> (8 * b), *byte) << done;
+        done += u32::from(table_entry(*byte, 8));
     }
     all
 }

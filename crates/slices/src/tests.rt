@@ -1,7 +1,7 @@
 //! Filters on examples.
 use super::{filter_slice, filter_slice_in_place};
 use kernels::Event;
-use selection::{Refusal, Run, Selection, Window};
+use selection::{Run, Selection, Window};
 
 #[test]
 fn bytes_by_bitmap(rt: HostRuntime) {
@@ -12,8 +12,8 @@ fn bytes_by_bitmap(rt: HostRuntime) {
     };
     let mut out = [9u8; 4];
     assert_eq!(rt;
-        told(filter_slice(&[10u8, 20, 30, 40, 50], Selection::Bitmap(window), &mut out)),
-        (3, 0)
+        filter_slice(&[10u8, 20, 30, 40, 50], Selection::Bitmap(window), &mut out),
+        Ok(3)
     );
     assert_eq!(rt; out, [10, 30, 40, 9]);
 }
@@ -26,7 +26,7 @@ fn floats_by_indices(rt: HostRuntime) {
         len: 4,
     };
     let mut out = [0f32; 2];
-    assert_eq!(rt; told(filter_slice(&values, picked, &mut out)), (2, 0));
+    assert_eq!(rt; filter_slice(&values, picked, &mut out), Ok(2));
     assert_eq!(rt; out, [1.5, 3.5]);
 }
 
@@ -37,7 +37,10 @@ fn too_few_places(rt: HostRuntime) {
         len: 3,
     };
     let mut out = [7u8, 8];
-    assert_eq!(rt; told(filter_slice(&[1u8, 2, 3], picked, &mut out)), (0, 7));
+    assert_eq!(rt;
+        filter_slice(&[1u8, 2, 3], picked, &mut out).map_err(|refusal| refusal.number()),
+        Err(7)
+    );
     assert_eq!(rt; out, [7, 8]);
 }
 
@@ -48,7 +51,7 @@ fn events_by_runs(rt: HostRuntime) {
         runs: &[Run { start: 0, end: 1 }, Run { start: 2, end: 4 }],
         len: 5,
     };
-    assert_eq!(rt; told(filter_slice_in_place(&mut events, picked)), (3, 0));
+    assert_eq!(rt; filter_slice_in_place(&mut events, picked), Ok(3));
     assert_eq!(rt;
         events,
         [event(10), event(30), event(40), event(40), event(50)]
@@ -62,7 +65,7 @@ fn numbers_by_indices(rt: HostRuntime) {
         indices: &[1, 3],
         len: 5,
     };
-    assert_eq!(rt; told(filter_slice_in_place(&mut values, picked)), (2, 0));
+    assert_eq!(rt; filter_slice_in_place(&mut values, picked), Ok(2));
     assert_eq!(rt; values, [20, 40, 30, 40, 50]);
 }
 
@@ -73,7 +76,10 @@ fn another_length(rt: HostRuntime) {
         indices: &[2],
         len: 4,
     };
-    assert_eq!(rt; told(filter_slice_in_place(&mut values, picked)), (0, 8));
+    assert_eq!(rt;
+        filter_slice_in_place(&mut values, picked).map_err(|refusal| refusal.number()),
+        Err(8)
+    );
     assert_eq!(rt; values, [1, 2, 3]);
 }
 
@@ -82,13 +88,5 @@ fn event(time: u64) -> Event {
         time,
         lift: 1,
         code: 2,
-    }
-}
-
-/// The count and 0, or 0 and the number of the refusal.
-fn told(answer: Result<u64, Refusal>) -> (u64, u8) {
-    match answer {
-        Ok(count) => (count, 0),
-        Err(refusal) => (0, refusal.number()),
     }
 }

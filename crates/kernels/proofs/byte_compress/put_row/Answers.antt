@@ -1,7 +1,7 @@
-use Rattle.std.proofs.Common.{◌+◌, ◌^◌, ◌<◌, [], length, drop, sym, ap, ◌∙◌, arith, rules}
+use Rattle.std.proofs.Common.{◌+◌, ◌^◌, ◌<◌, [], ◌∷◌, length, drop, sym, ap, ◌∙◌, arith, rules}
 use Rattle.std.proofs.lemmas.List.{drop_all}
 use Rattle.kernels.specs.Masks.{set_bits}
-use Rattle.kernels.proofs.Putting.{left_all, left_done, left_one, left_same, left_step}
+use Rattle.kernels.proofs.Putting.{left_done, left_first, left_same, left_small, left_turn}
 use Rattle.kernels.proofs.Rows.{length_row, row_items, row_told}
 use Rattle.kernels.proofs.byte_compress.put_row.Goals as goal
 
@@ -11,43 +11,25 @@ bounds-row-8 g c = let e = ap length c.row_at-row.ensures ∙ length_row c.args.
 pub slice_bounds-place-items-end : goal.slice_bounds-place-items-end
 slice_bounds-place-items-end g c = sym (row_items c.args.byte 0 c.from.result c.row_at-row.result.now c.row_at-row.ensures c.from.ensures).0
 
-pub loop-place-init : goal.loop-place-init
-loop-place-init g c = left_all c.requires
-
 pub overflow_add-base : goal.overflow_add-base
 overflow_add-base g c =
     let j = c.loop-place.place-index in
     let r = c.from-in-loop-place.result in
-    let h = left_one (c.args.base + r) (drop (j + 1) (set_bits 8 c.args.byte c.args.base)) (left_same _ (row_told c.args.byte c.args.base c.from.result j r c.row_at-row.result.now c.row_at-row.ensures c.from.ensures c.loop-place-test.true c.from-in-loop-place.ensures) c.loop-place.invariant) in
+    let h = (left_small c.requires.laws (left_same _ (row_told c.args.byte c.args.base c.from.result j r c.row_at-row.result.now c.row_at-row.ensures c.from.ensures c.loop-place-test.true c.from-in-loop-place.ensures) c.loop-place.invariant)).0 in
     let fits : c.args.base + r < 2 ^ 64 = omega arith in
     search rules
-
-pub offset_bounds-src-base : goal.offset_bounds-src-base
-offset_bounds-src-base g c =
-    let j = c.loop-place.place-index in
-    let r = c.from-in-loop-place.result in
-    let h = left_one (c.args.base + r) (drop (j + 1) (set_bits 8 c.args.byte c.args.base)) (left_same _ (row_told c.args.byte c.args.base c.from.result j r c.row_at-row.result.now c.row_at-row.ensures c.from.ensures c.loop-place-test.true c.from-in-loop-place.ensures) c.loop-place.invariant) in
-    omega arith
-
-pub bounds-src-base : goal.bounds-src-base
-bounds-src-base g c =
-    let j = c.loop-place.place-index in
-    let r = c.from-in-loop-place.result in
-    let h = left_one (c.args.base + r) (drop (j + 1) (set_bits 8 c.args.byte c.args.base)) (left_same _ (row_told c.args.byte c.args.base c.from.result j r c.row_at-row.result.now c.row_at-row.ensures c.from.ensures c.loop-place-test.true c.from-in-loop-place.ensures) c.loop-place.invariant) in
-    h.0
 
 pub put-requires : goal.put-requires
 put-requires g c =
     let j = c.loop-place.place-index in
     let r = c.from-in-loop-place.result in
-    let h = left_one (c.args.base + r) (drop (j + 1) (set_bits 8 c.args.byte c.args.base)) (left_same _ (row_told c.args.byte c.args.base c.from.result j r c.row_at-row.result.now c.row_at-row.ensures c.from.ensures c.loop-place-test.true c.from-in-loop-place.ensures) c.loop-place.invariant) in
-    h.1
+    left_first c.requires.laws ((c.args.base + r) ∷ []) (drop (j + 1) (set_bits 8 c.args.byte c.args.base)) (left_same _ (row_told c.args.byte c.args.base c.from.result j r c.row_at-row.result.now c.row_at-row.ensures c.from.ensures c.loop-place-test.true c.from-in-loop-place.ensures) c.loop-place.invariant)
 
 pub loop-place-preserved : goal.loop-place-preserved
 loop-place-preserved g c =
     let j = c.loop-place.place-index in
     let r = c.from-in-loop-place.result in
-    left_step (c.args.base + r) (drop (j + 1) (set_bits 8 c.args.byte c.args.base)) c.index-src-base.result c.put.new.self (left_same _ (row_told c.args.byte c.args.base c.from.result j r c.row_at-row.result.now c.row_at-row.ensures c.from.ensures c.loop-place-test.true c.from-in-loop-place.ensures) c.loop-place.invariant) c.index-src-base.is c.put.ensures
+    left_turn c.requires.laws ((c.args.base + r) ∷ []) (drop (j + 1) (set_bits 8 c.args.byte c.args.base)) c.put.new.self c.requires.able (left_same _ (row_told c.args.byte c.args.base c.from.result j r c.row_at-row.result.now c.row_at-row.ensures c.from.ensures c.loop-place-test.true c.from-in-loop-place.ensures) c.loop-place.invariant) c.put.ensures
 
 pub returns : goal.returns
 returns g c =

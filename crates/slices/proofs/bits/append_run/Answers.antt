@@ -1,19 +1,12 @@
-use Rattle.std.proofs.Common.{◌≡◌, ℕ, ◌+◌, ◌-◌, ◌*◌, ◌<◌, [], ◌++◌, map, sym, ap, subst, ap₂, arith}
+use Rattle.std.proofs.Common.{◌≡◌, ℕ, ◌+◌, ◌-◌, ◌*◌, ◌<◌, [], ◌++◌, map, sym, ap, subst, arith}
 use Rattle.std.specs.List.{range_with_len}
 use Rattle.std.proofs.lemmas.List.FromFn.{length-map-range_with_len}
 use Rattle.std.proofs.lemmas.List.{length-map}
 use Rattle.selection.specs.Selected.{range, window_bit}
 use Rattle.slices.specs.Accumulated.{Room}
-use Rattle.slices.proofs.Stored.{going_done, going_room, going_same, going_start, going_turn}
+use Rattle.slices.proofs.Stored.{going_done, going_room, going_same, going_turn}
 use Rattle.slices.proofs.Taken.{packed_window, run_taken}
 use Rattle.slices.proofs.bits.append_run.Goals as goal
-
-pub loop-k-init : goal.loop-k-init
-loop-k-init c =
-    let r = c.args.run in
-    let a : r.start + 64 * 0 ≡ r.start = omega arith in
-    let b : r.«end» - r.start - 64 * 0 ≡ r.«end» - r.start = omega arith in
-    going_start _ _ c.args.out.now c.args.acc.now c.requires.room.fill (ap₂ (λ x n. map (window_bit c.args.source) (range_with_len x n)) a b)
 
 pub append-requires : goal.append-requires
 append-requires c =
@@ -28,9 +21,9 @@ append-requires c =
     let xs = map (window_bit s) (range_with_len (r.start + 64 * k) n) in
     let rest = map (window_bit s) (range_with_len (r.start + 64 * (k + 1)) (len - 64 * (k + 1))) in
     let inv = going_same (xs ++ rest) (run_taken (window_bit s) r.start len k n within c.min-n.ensures) c.loop-k.invariant in
-    let room = subst (λ m. Room c.args.out.now c.args.acc.now m) (sym (length-map (range r) (window_bit s))) c.requires.room in
+    let room = subst (λ m. Room c.args.acc.now m) (sym (length-map (range r) (window_bit s))) c.requires.room in
     let few = c.min-n.ensures in
-    record { size = omega arith; room = subst (λ m. Room c.loop-k.out c.loop-k.acc m) (length-map-range_with_len (window_bit s) (r.start + 64 * k) n) (going_room xs rest inv room) }
+    record { size = omega arith; room = subst (λ m. Room c.loop-k.acc m) (length-map-range_with_len (window_bit s) (r.start + 64 * k) n) (going_room xs rest inv room) }
 
 pub loop-k-preserved : goal.loop-k-preserved
 loop-k-preserved c =
@@ -48,7 +41,7 @@ loop-k-preserved c =
     let few = c.min-n.ensures in
     let inside = c.requires.inside in
     let some = c.requires.some in
-    going_turn xs rest c.append.new.out c.append.new.self inv (c.append.ensures xs (length-map-range_with_len (window_bit s) (r.start + 64 * k) n) (packed_window s (r.start + 64 * k) n c.bits.result (omega arith) (omega arith) c.bits.ensures))
+    going_turn xs rest c.append.new.self inv (c.append.ensures xs (length-map-range_with_len (window_bit s) (r.start + 64 * k) n) (packed_window s (r.start + 64 * k) n c.bits.result (omega arith) (omega arith) c.bits.ensures))
 
 pub returns : goal.returns
 returns c =

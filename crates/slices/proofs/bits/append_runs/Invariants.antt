@@ -4,5 +4,5 @@ use Rattle.selection.specs.Selected.{range, window_bit}
 use Rattle.slices.proofs.Stored.{Going}
 use Rattle.slices.proofs.bits.append_runs.Given as goal
 
-abbrev pub invariant-loop-k : goal.invariant-loop-k
-invariant-loop-k l = Going (map (window_bit l.source) (flat_map range l.runs)) (map (window_bit l.source) (flat_map range (drop l.k l.runs))) l.initial.out l.initial.acc l.out l.acc
+abbrev pub invariant-loop-run : goal.invariant-loop-run
+invariant-loop-run l = Going (map (window_bit l.source) (flat_map range l.runs)) (map (window_bit l.source) (flat_map range (drop l.run-index l.runs))) l.initial.acc l.acc

@@ -12,7 +12,7 @@ use Rattle.slices.proofs.bits.append_window.Goals as goal
 pub loop-k-init : goal.loop-k-init
 loop-k-init c =
     let w = c.args.window in
-    going_start _ _ c.args.out.now c.args.acc.now c.requires.room.fill (ap (map (window_bit c.args.source)) (mask_left (Framed w) w.len (window_mask w) ∙ window_selected w))
+    going_start _ _ c.args.acc.now c.requires.room.fill (ap (map (window_bit c.args.source)) (mask_left (Framed w) w.len (window_mask w) ∙ window_selected w))
 
 pub append_word-requires : goal.append_word-requires
 append_word-requires c =
@@ -25,8 +25,8 @@ append_word-requires c =
     let xs = map (bit_of (word_of s k)) (set_bits 64 (word_of w k) 0) in
     let rest = map (window_bit s) (left_of (mask_bit (Framed w)) (k + 1) n) in
     let inv = going_same (xs ++ rest) (left_taken s w c.requires.same k n within) c.loop-k.invariant in
-    let room = subst (λ m. Room c.args.out.now c.args.acc.now m) (sym (length-map (window_positions w) (window_bit s))) c.requires.room in
-    subst (λ m. Room c.loop-k.out c.loop-k.acc m) (length-map (set_bits 64 (word_of w k) 0) (bit_of (word_of s k)) ∙ ap (λ m. length (set_bits 64 m 0)) (sym c.word-in-loop-k.ensures)) (going_room xs rest inv room)
+    let room = subst (λ m. Room c.args.acc.now m) (sym (length-map (window_positions w) (window_bit s))) c.requires.room in
+    subst (λ m. Room c.loop-k.acc m) (length-map (set_bits 64 (word_of w k) 0) (bit_of (word_of s k)) ∙ ap (λ m. length (set_bits 64 m 0)) (sym c.word-in-loop-k.ensures)) (going_room xs rest inv room)
 
 pub loop-k-preserved : goal.loop-k-preserved
 loop-k-preserved c =
@@ -40,7 +40,7 @@ loop-k-preserved c =
     let rest = map (window_bit s) (left_of (mask_bit (Framed w)) (k + 1) n) in
     let inv = going_same (xs ++ rest) (left_taken s w c.requires.same k n within) c.loop-k.invariant in
     let same : map (bit_of c.word.result) (set_bits 64 c.word-in-loop-k.result 0) ≡ xs = ap₂ (λ a b. map (bit_of a) (set_bits 64 b 0)) c.word.ensures c.word-in-loop-k.ensures in
-    going_turn xs rest c.append_word.new.out c.append_word.new.acc inv (subst (λ ys. Adds ys c.loop-k.out c.loop-k.acc c.append_word.new.out c.append_word.new.acc) same c.append_word.ensures)
+    going_turn xs rest c.append_word.new.acc inv (subst (λ ys. Adds ys c.loop-k.acc c.append_word.new.acc) same c.append_word.ensures)
 
 pub returns : goal.returns
 returns c =

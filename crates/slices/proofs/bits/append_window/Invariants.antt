@@ -7,4 +7,4 @@ use Rattle.slices.proofs.Stored.{Going}
 use Rattle.slices.proofs.bits.append_window.Given as goal
 
 abbrev pub invariant-loop-k : goal.invariant-loop-k
-invariant-loop-k l = Going (map (window_bit l.source) (window_positions l.window)) (map (window_bit l.source) (left_of (mask_bit (Framed l.window)) l.k (count_of_words (Framed l.window)))) l.initial.out l.initial.acc l.out l.acc
+invariant-loop-k l = Going (map (window_bit l.source) (window_positions l.window)) (map (window_bit l.source) (left_of (mask_bit (Framed l.window)) l.k (count_of_words (Framed l.window)))) l.initial.acc l.acc

@@ -12,18 +12,16 @@ use Rattle.slices.proofs.bits.append_word.Goals as goal
 
 pub append-requires : goal.append-requires
 append-requires c =
-    let out = c.args.out.now in
     let acc = c.args.acc.now in
-    record { size = omega arith; room = subst (λ n. Room out acc n) (full_length 64 c.args.mask 0 c.if-mask-eq18446744073709551615.true) c.requires }
+    record { size = omega arith; room = subst (λ n. Room acc n) (full_length 64 c.args.mask 0 c.if-mask-eq18446744073709551615.true) c.requires }
 
 pub append-requires-then-mask-ne0 : goal.append-requires-then-mask-ne0
 append-requires-then-mask-ne0 c =
-    let out = c.args.out.now in
     let acc = c.args.acc.now in
     let fits : c.args.mask < 2 ^ 64 = search rules in
     let e = word_count 64 c.args.mask fits in
     let few = set_short 64 c.args.mask 0 in
-    record { size = omega arith; room = subst (λ n. Room out acc n) e c.requires }
+    record { size = omega arith; room = subst (λ n. Room acc n) e c.requires }
 
 pub returns-then-mask-eq18446744073709551615 : goal.returns-then-mask-eq18446744073709551615
 returns-then-mask-eq18446744073709551615 c =
@@ -40,7 +38,6 @@ returns-then-mask-ne0 c =
 
 pub returns-else-mask-ne0 : goal.returns-else-mask-ne0
 returns-else-mask-ne0 c =
-    let out = c.args.out.now in
     let acc = c.args.acc.now in
     let none : c.args.mask ≡ 0 = c.if-mask-ne0.false in
-    subst (λ ys. Adds ys out acc out acc) (ap (map (bit_of c.args.word)) (sym (ap (λ m. set_bits 64 m 0) none ∙ no_bits 64 0))) (adds_none out acc c.requires.fill)
+    subst (λ ys. Adds ys acc acc) (ap (map (bit_of c.args.word)) (sym (ap (λ m. set_bits 64 m 0) none ∙ no_bits 64 0))) (adds_none acc c.requires.fill)

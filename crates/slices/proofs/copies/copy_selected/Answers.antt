@@ -60,4 +60,4 @@ returns-in-Runs g c =
     let rs = c.in-Runs.runs in
     let formed = place_passed s n (copy_passed s n (length c.args.out.now) c.requires).0 in
     let e = runs_picks s rs c.in-Runs.len c.in-Runs.is formed.0 in
-    left_by c.args.values.now c.args.out.now c.copy_runs.new.out (flat_map range rs.now) (positions s) c.copy_runs.ensures e
+    left_by c.args.values.now c.args.out.now c.copy_runs.new.dst (flat_map range rs.now) (positions s) c.copy_runs.ensures e

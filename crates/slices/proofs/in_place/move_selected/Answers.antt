@@ -7,14 +7,14 @@ use Rattle.slices.proofs.Admitted.{place_passed}
 use Rattle.slices.proofs.Formed.{bitmap_mask, bitmap_picks, indices_picks, indices_rise, left_by, runs_follow, runs_picks}
 use Rattle.slices.proofs.in_place.move_selected.Goals as goal
 
-pub move_bits-requires : goal.move_bits-requires
-move_bits-requires g c =
+pub move_by_bitmap-requires : goal.move_by_bitmap-requires
+move_by_bitmap-requires g c =
     let s = c.args.selection in
     let n = length c.args.values.now in
     bitmap_mask s c.in-Bitmap.window n c.in-Bitmap.is (place_passed s n c.requires).1
 
-pub move_indices-requires : goal.move_indices-requires
-move_indices-requires g c =
+pub move_at-requires : goal.move_at-requires
+move_at-requires g c =
     let s = c.args.selection in
     let n = length c.args.values.now in
     let formed = place_passed s n c.requires in
@@ -31,7 +31,7 @@ pub returns-in-Bitmap : goal.returns-in-Bitmap
 returns-in-Bitmap g c =
     let s = c.args.selection in
     let e = bitmap_picks s c.in-Bitmap.window c.in-Bitmap.is in
-    left_by c.args.values.now c.args.values.now c.move_bits.new.values (selected_by (Window c.in-Bitmap.window)) (positions s) c.move_bits.ensures e
+    left_by c.args.values.now c.args.values.now c.move_by_bitmap.new.values (selected_by (Window c.in-Bitmap.window)) (positions s) c.move_by_bitmap.ensures e
 
 pub returns-in-Indices : goal.returns-in-Indices
 returns-in-Indices g c =
@@ -39,7 +39,7 @@ returns-in-Indices g c =
     let xs = c.in-Indices.indices in
     let formed = place_passed s (length c.args.values.now) c.requires in
     let e = indices_picks s xs c.in-Indices.len c.in-Indices.is formed.0 in
-    left_by c.args.values.now c.args.values.now c.move_indices.new.values xs.now (positions s) c.move_indices.ensures e
+    left_by c.args.values.now c.args.values.now c.move_at.new.values xs.now (positions s) c.move_at.ensures e
 
 pub returns-in-Runs : goal.returns-in-Runs
 returns-in-Runs g c =

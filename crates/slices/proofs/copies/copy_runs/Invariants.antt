@@ -1,9 +1,0 @@
-use Rattle.std.proofs.Common.{length, drop}
-use Rattle.std.specs.List.{flat_map}
-use Rattle.selection.specs.Selected.{range}
-use Rattle.kernels.specs.Masks.{compacted}
-use Rattle.kernels.proofs.Masked.{Left}
-use Rattle.slices.proofs.copies.copy_runs.Given as goal
-
-abbrev pub invariant-loop-k : goal.invariant-loop-k
-invariant-loop-k g l = Left l.values l.out l.pos (flat_map range (drop l.k l.runs)) (length (flat_map range l.runs)) (compacted l.values (flat_map range l.runs) l.initial.out)

@@ -1,9 +1,0 @@
-use Rattle.std.proofs.Common.{◌+◌, length, drop}
-use Rattle.std.specs.List.{flat_map}
-use Rattle.selection.specs.Selected.{range}
-use Rattle.kernels.specs.Masks.{compacted}
-use Rattle.slices.proofs.Placed.{Held}
-use Rattle.slices.proofs.in_place.move_runs.Given as goal
-
-abbrev pub invariant-loop-k : goal.invariant-loop-k
-invariant-loop-k g l = Held l.initial.values l.values l.pos (flat_map range (drop l.k l.runs)) (0 + length (flat_map range l.runs)) (compacted l.initial.values (flat_map range l.runs) l.initial.values)
