@@ -1,12 +1,12 @@
 //! Serving the places of a push that nothing stands against any more.
-ghost use Rattle.std.specs.Prelude.{◌≡◌, ℕ, ◌+◌, ◌-◌, ◌*◌, ◌^◌, ◌<◌, ◌≤◌, map, length, drop, None, filter, slice_index, slice_index_or};
-ghost use Rattle.std.specs.List.{range_with_len, between, flat_map, AllByRecursion};
+ghost use Rattle.std.specs.Prelude.{◌≡◌, ℕ, ◌+◌, ◌-◌, ◌*◌, ◌^◌, ◌<◌, ◌≤◌, map, length, take, drop, None, filter, slice_index, slice_index_or};
+ghost use Rattle.std.specs.List.{range_with_len, flat_map, AllByRecursion};
 ghost use Rattle.selection.specs.Selected.{Rising, RunsRise, no_run, range, selection_fault, window_bit, window_from, window_positions};
 ghost use Rattle.kernels.specs.Masks.{Covers, mask_positions};
 ghost use Rattle.kernels.specs.Moved.{gather, limit_at_width, splice};
-ghost use Rattle.settle.specs.Pushes.{declined, moved, places};
+ghost use Rattle.settle.specs.Pushes.{moved, places};
 ghost use Rattle.settle.specs.Bounds.{kept_between_places};
-ghost use Rattle.chunked.specs.Deliveries.{Delivered, offers};
+ghost use Rattle.chunked.specs.Deliveries.{Delivered, Granted, offers};
 ghost use Rattle.chunked.specs.Served.{Servable};
 ghost use Rattle.chunked.specs.Spans.{EndsBy, in_span};
 ghost use Rattle.source.specs.Fetched.{fetch_fault, holding, place_in, whole_chunk};
@@ -57,6 +57,13 @@ fn count_below(indices: &[u64], bound: u64) -> usize
         .unwrap_or(indices.len())
 }
 
+/// What is added to each position: no more than a chunk.
+#[derive(Clone, Copy)]
+struct Offset {
+    by: u64,
+    ghost small: { by ≤ 1024 },
+}
+
 /// The part of some runs that lies below a bound: how many places, and the first run past it.
 #[derive(Clone, Copy)]
 struct Part {
@@ -64,25 +71,22 @@ struct Part {
     next: usize,
 }
 
+/// The places of ascending runs, from place `lo` on, that lie below `hi`.
 #[tactic(auto, using(crate::proofs::Spanning::count_few, crate::proofs::Spanning::count_more, crate::proofs::Spanning::ends_ahead, crate::proofs::Spanning::runs_at))]
-/// The places of ascending runs, from run `from` and place `lo` on, that lie below `hi`.
-fn runs_below(runs: &[Run], from: usize, offset: u64, lo: u64, hi: u64) -> Part
-    requires small { offset ≤ 1024 }
+fn runs_below(runs: &[Run], offset: Offset, lo: u64, hi: u64) -> Part
     requires rising { RunsRise 0 16777216 runs.now }
-    requires within { from ≤ length runs.now }
-    requires ahead { from < length runs.now → lo < (slice_index_or runs.now from no_run).«end» + offset }
+    requires ahead { 0 < length runs.now → lo < (slice_index_or runs.now 0 no_run).«end» + offset.by }
     requires order { lo ≤ hi }
-    ensures count { result.count ≡ length (in_span offset lo hi (drop from runs.now)) }
-    ensures next { (from ≤ result.next) × (result.next ≤ length runs.now) }
-    ensures done { AllByRecursion (EndsBy offset hi) (between from result.next runs.now) }
-    ensures past { result.next < length runs.now → hi < (slice_index_or runs.now result.next no_run).«end» + offset }
+    ensures count { result.count ≡ length (in_span offset.by lo hi runs.now) }
+    ensures next { result.next ≤ length runs.now }
+    ensures done { AllByRecursion (EndsBy offset.by hi) (take result.next runs.now) }
+    ensures past { result.next < length runs.now → hi < (slice_index_or runs.now result.next no_run).«end» + offset.by }
 {
     let mut count = 0;
-    for next in from..runs.len() {
-        let run = runs[next];
-        let piece = cut_run(run, offset, lo, hi);
+    for (next, run) in runs.iter().enumerate() {
+        let piece = cut_run(*run, offset.by, lo, hi);
         count += piece.end - piece.start;
-        if run.end + offset > hi {
+        if run.end + offset.by > hi {
             return Part { count, next };
         }
     }
@@ -146,21 +150,19 @@ impl<'a, D: ChunkDecoder> Delivery<'a, D> {
     }
 
     /// Serves ascending indices chunk by chunk.
-    fn serve_indices(&mut self, offset: u64, indices: &[u64])
-        requires small { offset ≤ 1024 }
+    fn serve_indices(&mut self, offset: Offset, indices: &[u64])
         requires rising { Rising 0 16777216 indices.now }
-        requires granted { declined (offers (limit_at_width D.Item.Element.WIDTH) D.ChunkDecoder.readings D.ChunkDecoder.allowance self.old) (map (moved offset) indices.now) ≡ None }
-        requires room { 1024 ≤ length self.old.scratch.now }
-        ensures { Delivered (limit_at_width D.Item.Element.WIDTH) D.ChunkDecoder.readings D.ChunkDecoder.allowance self.old self.new (map (moved offset) indices.now) }
+        requires granted { Granted (limit_at_width D.Item.Element.WIDTH) D.ChunkDecoder.readings D.ChunkDecoder.allowance self.old (map (moved offset.by) indices.now) }
+        ensures { Delivered (limit_at_width D.Item.Element.WIDTH) D.ChunkDecoder.readings D.ChunkDecoder.allowance self.old self.new (map (moved offset.by) indices.now) }
     {
         let mut rest = indices;
         while let Some(first) = rest.first() {
-            let chunk = (*first + offset) / CHUNK;
-            let n = count_below(rest, (chunk + 1) * CHUNK - offset);
+            let chunk = (*first + offset.by) / CHUNK;
+            let n = count_below(rest, (chunk + 1) * CHUNK - offset.by);
             let (here, later) = rest.split_at(n);
             let piece = IndexPiece {
                 indices: here,
-                offset,
+                offset: offset.by,
                 base: chunk * CHUNK,
             };
             self.serve_chunk(chunk, &piece);
@@ -169,31 +171,29 @@ impl<'a, D: ChunkDecoder> Delivery<'a, D> {
     }
 
     /// Serves ascending runs chunk by chunk.
-    #[tactic(auto, using(crate::proofs::RunWalks::run_bound))]
-    fn serve_runs(&mut self, offset: u64, runs: &[Run])
-        requires small { offset ≤ 1024 }
+    #[tactic(auto, using(crate::proofs::RunWalks::rest_bound))]
+    fn serve_runs(&mut self, offset: Offset, runs: &[Run])
         requires rising { RunsRise 0 16777216 runs.now }
-        requires granted { declined (offers (limit_at_width D.Item.Element.WIDTH) D.ChunkDecoder.readings D.ChunkDecoder.allowance self.old) (map (moved offset) (flat_map range runs.now)) ≡ None }
-        requires room { 1024 ≤ length self.old.scratch.now }
-        ensures { Delivered (limit_at_width D.Item.Element.WIDTH) D.ChunkDecoder.readings D.ChunkDecoder.allowance self.old self.new (map (moved offset) (flat_map range runs.now)) }
+        requires granted { Granted (limit_at_width D.Item.Element.WIDTH) D.ChunkDecoder.readings D.ChunkDecoder.allowance self.old (map (moved offset.by) (flat_map range runs.now)) }
+        ensures { Delivered (limit_at_width D.Item.Element.WIDTH) D.ChunkDecoder.readings D.ChunkDecoder.allowance self.old self.new (map (moved offset.by) (flat_map range runs.now)) }
     {
-        let mut next = 0;
+        let mut rest = runs;
         let mut resume = 0;
-        while next < runs.len() {
-            let chunk = (runs[next].start + offset).max(resume) / CHUNK;
+        while let Some(first) = rest.first() {
+            let chunk = (first.start + offset.by).max(resume) / CHUNK;
             let end = (chunk + 1) * CHUNK;
-            let part = runs_below(runs, next, offset, resume, end);
-            let last = runs.len().min(part.next + 1);
+            let part = runs_below(rest, offset, resume, end);
+            let last = rest.len().min(part.next + 1);
             let piece = RunPiece {
-                runs: &runs[next..last],
-                offset,
+                runs: &rest[..last],
+                offset: offset.by,
                 lo: resume,
                 hi: end,
                 base: chunk * CHUNK,
                 count: part.count,
             };
             self.serve_chunk(chunk, &piece);
-            next = part.next;
+            rest = rest.split_at(part.next).1;
             resume = end;
         }
     }
@@ -202,19 +202,18 @@ impl<'a, D: ChunkDecoder> Delivery<'a, D> {
     fn serve_chunk_bitmap(
         &mut self,
         chunk: u64,
-        offset: u64,
+        offset: Offset,
         window: Window<'_>,
         from: u64,
         to: u64,
     )
-        requires servable { 0 < length (kept_between_places (window_bit window) from to) → Servable (offers (limit_at_width D.Item.Element.WIDTH) D.ChunkDecoder.readings D.ChunkDecoder.allowance self.old) chunk (map (moved offset) (kept_between_places (window_bit window) from to)) }
-        requires low { chunk * 1024 ≤ from + offset }
-        requires high { to + offset ≤ chunk * 1024 + 1024 }
+        requires servable { 0 < length (kept_between_places (window_bit window) from to) → Servable (offers (limit_at_width D.Item.Element.WIDTH) D.ChunkDecoder.readings D.ChunkDecoder.allowance self.old) chunk (map (moved offset.by) (kept_between_places (window_bit window) from to)) }
+        requires low { chunk * 1024 ≤ from + offset.by }
+        requires high { to + offset.by ≤ chunk * 1024 + 1024 }
         requires order { from ≤ to }
         requires inside { to ≤ window.len }
-        requires small { offset ≤ 1024 }
-        requires fits { from + offset < 2 ^ 64 }
-        ensures { Delivered (limit_at_width D.Item.Element.WIDTH) D.ChunkDecoder.readings D.ChunkDecoder.allowance self.old self.new (map (moved offset) (kept_between_places (window_bit window.entry) from to)) }
+        requires fits { from + offset.by < 2 ^ 64 }
+        ensures { Delivered (limit_at_width D.Item.Element.WIDTH) D.ChunkDecoder.readings D.ChunkDecoder.allowance self.old self.new (map (moved offset.by) (kept_between_places (window_bit window.entry) from to)) }
     {
         let len = (to - from) as usize;
         let mut buffer = [0u64; 16];
@@ -224,7 +223,7 @@ impl<'a, D: ChunkDecoder> Delivery<'a, D> {
             let piece = MaskPiece {
                 bits: MaskBits::Words { words, len },
                 len,
-                up: from + offset - chunk * CHUNK,
+                up: from + offset.by - chunk * CHUNK,
                 count,
             };
             self.serve_chunk(chunk, &piece);
@@ -232,16 +231,14 @@ impl<'a, D: ChunkDecoder> Delivery<'a, D> {
     }
 
     /// Serves a bitmap chunk by chunk.
-    fn serve_bitmap(&mut self, offset: u64, window: Window<'_>)
-        requires small { offset ≤ 1024 }
+    fn serve_bitmap(&mut self, offset: Offset, window: Window<'_>)
         requires short { window.len ≤ 16777216 }
-        requires granted { declined (offers (limit_at_width D.Item.Element.WIDTH) D.ChunkDecoder.readings D.ChunkDecoder.allowance self.old) (map (moved offset) (window_positions window)) ≡ None }
-        requires room { 1024 ≤ length self.old.scratch.now }
-        ensures { Delivered (limit_at_width D.Item.Element.WIDTH) D.ChunkDecoder.readings D.ChunkDecoder.allowance self.old self.new (map (moved offset) (window_positions window.entry)) }
+        requires granted { Granted (limit_at_width D.Item.Element.WIDTH) D.ChunkDecoder.readings D.ChunkDecoder.allowance self.old (map (moved offset.by) (window_positions window)) }
+        ensures { Delivered (limit_at_width D.Item.Element.WIDTH) D.ChunkDecoder.readings D.ChunkDecoder.allowance self.old self.new (map (moved offset.by) (window_positions window.entry)) }
     {
-        for chunk in 0..(offset + window.len).div_ceil(CHUNK) {
-            let from = chunk_boundary(chunk, offset, window.len);
-            let to = chunk_boundary(chunk + 1, offset, window.len);
+        for chunk in 0..(offset.by + window.len).div_ceil(CHUNK) {
+            let from = chunk_boundary(chunk, offset.by, window.len);
+            let to = chunk_boundary(chunk + 1, offset.by, window.len);
             self.serve_chunk_bitmap(chunk, offset, window, from, to);
         }
     }
@@ -250,14 +247,14 @@ impl<'a, D: ChunkDecoder> Delivery<'a, D> {
     pub(crate) fn serve(&mut self, push: Push<'_>)
         requires formed { selection_fault push.selection ≡ None }
         requires small { push.offset ≤ 1024 }
-        requires granted { declined (offers (limit_at_width D.Item.Element.WIDTH) D.ChunkDecoder.readings D.ChunkDecoder.allowance self.old) (places push) ≡ None }
-        requires room { 1024 ≤ length self.old.scratch.now }
+        requires granted { Granted (limit_at_width D.Item.Element.WIDTH) D.ChunkDecoder.readings D.ChunkDecoder.allowance self.old (places push) }
         ensures { Delivered (limit_at_width D.Item.Element.WIDTH) D.ChunkDecoder.readings D.ChunkDecoder.allowance self.old self.new (places push.entry) }
     {
+        let offset = Offset { by: push.offset };
         match push.selection {
-            Selection::Bitmap(window) => self.serve_bitmap(push.offset, window),
-            Selection::Indices { indices, len: _ } => self.serve_indices(push.offset, indices),
-            Selection::Runs { runs, len: _ } => self.serve_runs(push.offset, runs),
+            Selection::Bitmap(window) => self.serve_bitmap(offset, window),
+            Selection::Indices { indices, len: _ } => self.serve_indices(offset, indices),
+            Selection::Runs { runs, len: _ } => self.serve_runs(offset, runs),
         }
     }
 }
