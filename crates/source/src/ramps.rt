@@ -3,7 +3,7 @@ ghost use Rattle.std.specs.Prelude.{◌≡◌, ◌*◌, ◌≤◌, IfOk, IfErr, 
 ghost use Rattle.source.specs.Fetched.{ramp_fault, ramped};
 ghost use Rattle.source.specs.Parts.{ramp_whole};
 
-use super::decoder::{ChunkDecoder, MAX_CHUNKS};
+use super::decoder::{CHUNK, ChunkDecoder, MAX_CHUNKS};
 use super::metered::Metered;
 use super::readings::Readings;
 use selection::Refusal;
@@ -65,5 +65,13 @@ impl Readings for Steps {
 
     fn reading(self, place: u64) -> u64 {
         self.start.wrapping_add(self.step.wrapping_mul(place))
+    }
+    /// Each reading is the one before it and a step.
+    fn write_chunk(self, chunk: u64, output: &mut [u64]) {
+        let mut next = self.reading(chunk * CHUNK);
+        for slot in output.iter_mut() {
+            *slot = next;
+            next = next.wrapping_add(self.step);
+        }
     }
 }
