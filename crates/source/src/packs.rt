@@ -6,6 +6,7 @@ use super::decoder::{ChunkDecoder, MAX_CHUNKS};
 use super::metered::Metered;
 use super::readings::Readings;
 use selection::{Refusal, field_at};
+use std::alloc::AllocError;
 
 /// The most bits of a packed reading.
 const MAX_WIDTH: u32 = 32;
@@ -14,13 +15,23 @@ const MAX_WIDTH: u32 = 32;
 pub type Packed<'a> = Metered<Bits<'a>>;
 
 /// The readings are numbers of `width` bits, one after another, the lowest bit first.
-#[derive(Drop)]
+#[derive(Copy)]
 pub struct Bits<'a> {
     bytes: &'a [u8],
     width: u32,
     chunks: u64,
     ghost narrow: { width ≤ 32 },
     ghost few: { chunks ≤ 16384 },
+}
+
+impl Clone for Bits<'_> {
+    ghost is_clone = { λ x y. y ≡ x };
+
+    ghost is_infallible = { λ _. Unit {0} };
+
+    fn clone(&self) -> Result<Self, AllocError> {
+        Ok(*self)
+    }
 }
 
 impl<'a> Packed<'a> {
@@ -55,11 +66,11 @@ impl<'a> Readings for Bits<'a> {
 
     ghost whole = { λ p. unpacked_whole p.bytes.now p.width p.chunks p.few };
 
-    fn chunks(&self) -> u64 {
+    fn chunks(self) -> u64 {
         self.chunks
     }
 
-    fn reading(&self, place: u64) -> u32 {
+    fn reading(self, place: u64) -> u32 {
         let bits = u64::from(self.width);
         let first = place * bits;
         field_at(self.bytes, first / 8, first % 8, bits) as u32

@@ -3,21 +3,32 @@ ghost use Rattle.std.specs.Prelude.{◌≡◌, ◌*◌, ◌≤◌, IfOk, IfErr, 
 ghost use Rattle.source.specs.Fetched.{ramp_fault, ramped};
 ghost use Rattle.source.specs.Parts.{ramp_whole};
 
-use super::decoder::{ChunkDecoder, MAX_CHUNKS};
+use super::decoder::{CHUNK, ChunkDecoder, MAX_CHUNKS};
 use super::metered::Metered;
 use super::readings::Readings;
 use selection::Refusal;
+use std::alloc::AllocError;
 
 /// A source of readings that are computed.
 pub type Ramp = Metered<Steps>;
 
 /// Reading `i` is `start + step * i`, modulo 2^64.
-#[derive(Drop)]
+#[derive(Copy)]
 pub struct Steps {
     start: u64,
     step: u64,
     chunks: u64,
     ghost few: { chunks ≤ 16384 },
+}
+
+impl Clone for Steps {
+    ghost is_clone = { λ x y. y ≡ x };
+
+    ghost is_infallible = { λ _. Unit {0} };
+
+    fn clone(&self) -> Result<Self, AllocError> {
+        Ok(*self)
+    }
 }
 
 impl Ramp {
@@ -48,11 +59,19 @@ impl Readings for Steps {
 
     ghost whole = { λ r. ramp_whole r.start r.step r.chunks r.few };
 
-    fn chunks(&self) -> u64 {
+    fn chunks(self) -> u64 {
         self.chunks
     }
 
-    fn reading(&self, place: u64) -> u64 {
+    fn reading(self, place: u64) -> u64 {
         self.start.wrapping_add(self.step.wrapping_mul(place))
+    }
+    /// Each reading is the one before it and a step.
+    fn write_chunk(self, chunk: u64, output: &mut [u64]) {
+        let mut next = self.reading(chunk * CHUNK);
+        for slot in output.iter_mut() {
+            *slot = next;
+            next = next.wrapping_add(self.step);
+        }
     }
 }

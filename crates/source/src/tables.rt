@@ -7,15 +7,26 @@ use super::metered::Metered;
 use super::readings::Readings;
 use kernels::Element;
 use selection::Refusal;
+use std::alloc::AllocError;
 
 /// A source of the elements of a lent slice.
 pub type Table<'a, T> = Metered<Lent<'a, T>>;
 
 /// The elements of a lent slice.
-#[derive(Drop)]
+#[derive(Copy)]
 pub struct Lent<'a, T> {
     lent: &'a [T],
     ghost whole: { Whole lent.now },
+}
+
+impl<'a, T: Copy> Clone for Lent<'a, T> {
+    ghost is_clone = { λ x y. y ≡ x };
+
+    ghost is_infallible = { λ _. Unit {0} };
+
+    fn clone(&self) -> Result<Self, AllocError> {
+        Ok(*self)
+    }
 }
 
 impl<'a, T: Element> Table<'a, T> {
@@ -43,15 +54,15 @@ impl<'a, T: Element> Readings for Lent<'a, T> {
 
     ghost whole = { λ s. s.whole };
 
-    fn chunks(&self) -> u64 {
+    fn chunks(self) -> u64 {
         self.lent.len() as u64 / CHUNK
     }
 
-    fn reading(&self, place: u64) -> T {
+    fn reading(self, place: u64) -> T {
         self.lent[place as usize]
     }
 
-    fn write_chunk(&self, chunk: u64, output: &mut [T]) {
+    fn write_chunk(self, chunk: u64, output: &mut [T]) {
         let from = (chunk * CHUNK) as usize;
         output.copy_from_slice(&self.lent[from..from + CHUNK as usize]);
     }

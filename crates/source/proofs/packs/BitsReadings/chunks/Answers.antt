@@ -4,4 +4,4 @@ use Rattle.source.specs.Parts.{made_length}
 use Rattle.source.proofs.packs.BitsReadings.chunks.Goals as goal
 
 pub returns : goal.returns
-returns c = let p = c.args.self.now in let size = made_length (reading_at p.bytes.now p.width) p.chunks in omega arith
+returns c = let p = c.args.self in let size = made_length (reading_at p.bytes.now p.width) p.chunks in omega arith

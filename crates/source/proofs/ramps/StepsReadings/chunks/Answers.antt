@@ -5,4 +5,4 @@ use Rattle.source.proofs.ramps.StepsReadings.chunks.Goals as goal
 
 pub returns : goal.returns
 unfolding ramped
-returns c = let r = c.args.self.now in let size = made_length (ramp_at r.start r.step) r.chunks in omega arith
+returns c = let r = c.args.self in let size = made_length (ramp_at r.start r.step) r.chunks in omega arith

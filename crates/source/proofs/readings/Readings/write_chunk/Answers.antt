@@ -11,11 +11,11 @@ loop-k-preserved g c =
     let size = whole_length in
     let within = c.loop-k-test.true in
     let here = whole_get k (omega arith) in
-    read_more (g.Self.Readings.all c.args.self.now) c.loop-k.output c.args.chunk whole_chunk k _ c.reading.result (omega arith) c.reading.ensures (omega arith) (omega arith) c.loop-k.invariant
+    read_more (g.Self.Readings.all c.args.self) c.loop-k.output c.args.chunk whole_chunk k _ c.reading.result (omega arith) c.reading.ensures (omega arith) (omega arith) c.loop-k.invariant
 
 pub returns : goal.returns
 returns g c =
     let k = c.loop-k.k in
     let size = whole_length in
     let end = c.loop-k-test.false in
-    sym (take_all k c.loop-k.output (omega arith)) ∙ c.loop-k.invariant ∙ ap (λ is. gather (g.Self.Readings.all c.args.self.now) (map (place_in c.args.chunk) is)) (take_all k whole_chunk (omega arith))
+    sym (take_all k c.loop-k.output (omega arith)) ∙ c.loop-k.invariant ∙ ap (λ is. gather (g.Self.Readings.all c.args.self) (map (place_in c.args.chunk) is)) (take_all k whole_chunk (omega arith))
