@@ -91,6 +91,10 @@ cut lo hi ps i j c up l e parted more within below above =
     later k h in_List (inl a) = let x = parted k a l in let y = above in_List in omega arith
     later k h in_List (inr a) = let x = below k a h in let y = above in_List in omega arith
 
+-- a part from the start
+pub between_start : {X : Type 0} (n : ℕ) (xs : List X) → between 0 n xs ≡ take n xs
+between_start n xs = let all : n - 0 ≡ n = omega arith in ap (λ m. take m xs) all
+
 module _ {X : Type 0} (ps : List X) (i j : ℕ) (up : i ≤ j) where
   pub take_cut : take j ps ≡ take i ps ++ between i j ps
   take_cut = let on : i + (j - i) ≡ j = omega arith in ap (λ n. take n ps) (sym on) ∙ take-add i (j - i) ps

@@ -1,12 +1,12 @@
 //! Serving the places of a push that nothing stands against any more.
-ghost use Rattle.std.specs.Prelude.{◌≡◌, ℕ, ◌+◌, ◌-◌, ◌*◌, ◌^◌, ◌<◌, ◌≤◌, map, length, drop, None, filter, slice_index, slice_index_or};
-ghost use Rattle.std.specs.List.{range_with_len, between, flat_map, AllByRecursion};
+ghost use Rattle.std.specs.Prelude.{◌≡◌, ℕ, ◌+◌, ◌-◌, ◌*◌, ◌^◌, ◌<◌, ◌≤◌, map, length, take, drop, None, filter, slice_index, slice_index_or};
+ghost use Rattle.std.specs.List.{range_with_len, flat_map, AllByRecursion};
 ghost use Rattle.selection.specs.Selected.{Rising, RunsRise, no_run, range, selection_fault, window_bit, window_from, window_positions};
 ghost use Rattle.kernels.specs.Masks.{Covers, mask_positions};
 ghost use Rattle.kernels.specs.Moved.{gather, limit_at_width, splice};
-ghost use Rattle.settle.specs.Pushes.{declined, moved, places};
+ghost use Rattle.settle.specs.Pushes.{moved, places};
 ghost use Rattle.settle.specs.Bounds.{kept_between_places};
-ghost use Rattle.chunked.specs.Deliveries.{Delivered, offers};
+ghost use Rattle.chunked.specs.Deliveries.{Delivered, Granted, offers};
 ghost use Rattle.chunked.specs.Served.{Servable};
 ghost use Rattle.chunked.specs.Spans.{EndsBy, in_span};
 ghost use Rattle.source.specs.Fetched.{fetch_fault, holding, place_in, whole_chunk};
@@ -65,22 +65,20 @@ struct Part {
 }
 
 #[tactic(auto, using(crate::proofs::Spanning::count_few, crate::proofs::Spanning::count_more, crate::proofs::Spanning::ends_ahead, crate::proofs::Spanning::runs_at))]
-/// The places of ascending runs, from run `from` and place `lo` on, that lie below `hi`.
-fn runs_below(runs: &[Run], from: usize, offset: u64, lo: u64, hi: u64) -> Part
+/// The places of ascending runs, from place `lo` on, that lie below `hi`.
+fn runs_below(runs: &[Run], offset: u64, lo: u64, hi: u64) -> Part
     requires small { offset ≤ 1024 }
     requires rising { RunsRise 0 16777216 runs.now }
-    requires within { from ≤ length runs.now }
-    requires ahead { from < length runs.now → lo < (slice_index_or runs.now from no_run).«end» + offset }
+    requires ahead { 0 < length runs.now → lo < (slice_index_or runs.now 0 no_run).«end» + offset }
     requires order { lo ≤ hi }
-    ensures count { result.count ≡ length (in_span offset lo hi (drop from runs.now)) }
-    ensures next { (from ≤ result.next) × (result.next ≤ length runs.now) }
-    ensures done { AllByRecursion (EndsBy offset hi) (between from result.next runs.now) }
+    ensures count { result.count ≡ length (in_span offset lo hi runs.now) }
+    ensures next { result.next ≤ length runs.now }
+    ensures done { AllByRecursion (EndsBy offset hi) (take result.next runs.now) }
     ensures past { result.next < length runs.now → hi < (slice_index_or runs.now result.next no_run).«end» + offset }
 {
     let mut count = 0;
-    for next in from..runs.len() {
-        let run = runs[next];
-        let piece = cut_run(run, offset, lo, hi);
+    for (next, run) in runs.iter().enumerate() {
+        let piece = cut_run(*run, offset, lo, hi);
         count += piece.end - piece.start;
         if run.end + offset > hi {
             return Part { count, next };
@@ -149,8 +147,7 @@ impl<'a, D: ChunkDecoder> Delivery<'a, D> {
     fn serve_indices(&mut self, offset: u64, indices: &[u64])
         requires small { offset ≤ 1024 }
         requires rising { Rising 0 16777216 indices.now }
-        requires granted { declined (offers (limit_at_width D.Item.Element.WIDTH) D.ChunkDecoder.readings D.ChunkDecoder.allowance self.old) (map (moved offset) indices.now) ≡ None }
-        requires room { 1024 ≤ length self.old.scratch.now }
+        requires granted { Granted (limit_at_width D.Item.Element.WIDTH) D.ChunkDecoder.readings D.ChunkDecoder.allowance self.old (map (moved offset) indices.now) }
         ensures { Delivered (limit_at_width D.Item.Element.WIDTH) D.ChunkDecoder.readings D.ChunkDecoder.allowance self.old self.new (map (moved offset) indices.now) }
     {
         let mut rest = indices;
@@ -169,23 +166,22 @@ impl<'a, D: ChunkDecoder> Delivery<'a, D> {
     }
 
     /// Serves ascending runs chunk by chunk.
-    #[tactic(auto, using(crate::proofs::RunWalks::run_bound))]
+    #[tactic(auto, using(crate::proofs::RunWalks::rest_bound))]
     fn serve_runs(&mut self, offset: u64, runs: &[Run])
         requires small { offset ≤ 1024 }
         requires rising { RunsRise 0 16777216 runs.now }
-        requires granted { declined (offers (limit_at_width D.Item.Element.WIDTH) D.ChunkDecoder.readings D.ChunkDecoder.allowance self.old) (map (moved offset) (flat_map range runs.now)) ≡ None }
-        requires room { 1024 ≤ length self.old.scratch.now }
+        requires granted { Granted (limit_at_width D.Item.Element.WIDTH) D.ChunkDecoder.readings D.ChunkDecoder.allowance self.old (map (moved offset) (flat_map range runs.now)) }
         ensures { Delivered (limit_at_width D.Item.Element.WIDTH) D.ChunkDecoder.readings D.ChunkDecoder.allowance self.old self.new (map (moved offset) (flat_map range runs.now)) }
     {
-        let mut next = 0;
+        let mut rest = runs;
         let mut resume = 0;
-        while next < runs.len() {
-            let chunk = (runs[next].start + offset).max(resume) / CHUNK;
+        while let Some(first) = rest.first() {
+            let chunk = (first.start + offset).max(resume) / CHUNK;
             let end = (chunk + 1) * CHUNK;
-            let part = runs_below(runs, next, offset, resume, end);
-            let last = runs.len().min(part.next + 1);
+            let part = runs_below(rest, offset, resume, end);
+            let last = rest.len().min(part.next + 1);
             let piece = RunPiece {
-                runs: &runs[next..last],
+                runs: &rest[..last],
                 offset,
                 lo: resume,
                 hi: end,
@@ -193,7 +189,7 @@ impl<'a, D: ChunkDecoder> Delivery<'a, D> {
                 count: part.count,
             };
             self.serve_chunk(chunk, &piece);
-            next = part.next;
+            rest = rest.split_at(part.next).1;
             resume = end;
         }
     }
@@ -235,8 +231,7 @@ impl<'a, D: ChunkDecoder> Delivery<'a, D> {
     fn serve_bitmap(&mut self, offset: u64, window: Window<'_>)
         requires small { offset ≤ 1024 }
         requires short { window.len ≤ 16777216 }
-        requires granted { declined (offers (limit_at_width D.Item.Element.WIDTH) D.ChunkDecoder.readings D.ChunkDecoder.allowance self.old) (map (moved offset) (window_positions window)) ≡ None }
-        requires room { 1024 ≤ length self.old.scratch.now }
+        requires granted { Granted (limit_at_width D.Item.Element.WIDTH) D.ChunkDecoder.readings D.ChunkDecoder.allowance self.old (map (moved offset) (window_positions window)) }
         ensures { Delivered (limit_at_width D.Item.Element.WIDTH) D.ChunkDecoder.readings D.ChunkDecoder.allowance self.old self.new (map (moved offset) (window_positions window.entry)) }
     {
         for chunk in 0..(offset + window.len).div_ceil(CHUNK) {
@@ -250,8 +245,7 @@ impl<'a, D: ChunkDecoder> Delivery<'a, D> {
     pub(crate) fn serve(&mut self, push: Push<'_>)
         requires formed { selection_fault push.selection ≡ None }
         requires small { push.offset ≤ 1024 }
-        requires granted { declined (offers (limit_at_width D.Item.Element.WIDTH) D.ChunkDecoder.readings D.ChunkDecoder.allowance self.old) (places push) ≡ None }
-        requires room { 1024 ≤ length self.old.scratch.now }
+        requires granted { Granted (limit_at_width D.Item.Element.WIDTH) D.ChunkDecoder.readings D.ChunkDecoder.allowance self.old (places push) }
         ensures { Delivered (limit_at_width D.Item.Element.WIDTH) D.ChunkDecoder.readings D.ChunkDecoder.allowance self.old self.new (places push.entry) }
     {
         match push.selection {

@@ -44,6 +44,9 @@ set_in_chunk w offset c =
     let b : min (boundary offset w.len (c + 1)) w.len ≡ boundary offset w.len (c + 1) = omega arith in
     ap₂ (λ x y. length (filter (window_bit w) (range_with_len x (y - x)))) a b
 
+pub ones_next : (w : Window) (offset c n : ℕ) → offset ≤ 1024 → n ≡ set_between w (boundary offset w.len c) (boundary offset w.len (c + 1)) → length (kept_between_places (window_bit w) 0 (boundary offset w.len (c + 1))) ≡ length (kept_between_places (window_bit w) 0 (boundary offset w.len c)) + n
+ones_next w offset c n small e = let next = count_next (window_bit w) offset w.len c small in let here = set_in_chunk w offset c in omega arith
+
 pub kept_whole : (w : Window) → kept_between_places (window_bit w) 0 w.len ≡ window_positions w
 kept_whole w = let n : w.len - 0 ≡ w.len = omega arith in ap (λ m. filter (window_bit w) (range_with_len 0 m)) n
 

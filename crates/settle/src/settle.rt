@@ -191,6 +191,7 @@ pub fn chunk_boundary(chunk: u64, offset: u64, len: u64) -> u64
 }
 
 /// Count and fee of a bitmap, or the first chunk past the source.
+#[tactic(auto, using(crate::proofs::Bitmaps::kept_few, crate::proofs::Bitmaps::ones_next))]
 fn price_bitmap(terms: &Terms, offset: u64, window: Window<'_>) -> Result<Receipt, Refusal>
     requires small { offset ≤ 1024 }
     requires short { window.len ≤ 16777216 }

@@ -8,7 +8,7 @@ use Rattle.settle.specs.declared.settle.Receipt.{Receipt}
 use Rattle.settle.specs.Pushes.{fee, moved, past_source, receipt}
 use Rattle.settle.specs.Bounds.{boundary, kept_between_places}
 use Rattle.settle.specs.Tallies.{Tallied}
-use Rattle.settle.proofs.Bitmaps.{chunk_here, count_next, kept_few, kept_start, kept_whole, places_next, set_in_chunk}
+use Rattle.settle.proofs.Bitmaps.{chunk_here, count_next, kept_few, kept_start, kept_whole, ones_next, places_next, set_in_chunk}
 use Rattle.settle.proofs.Settled.{at}
 use Rattle.settle.proofs.Tallying.{tallied_none, tallied_still}
 use Rattle.settle.proofs.settle.price_bitmap.Goals as goal
@@ -48,39 +48,28 @@ loop-chunk-preserved-then-n-eq0 c =
 pub overflow_add-count : goal.overflow_add-count
 overflow_add-count c =
     let w = c.args.window in
-    let q = window_bit w in
-    let len = w.len in
     let offset = c.args.offset in
     let chunk = c.loop-chunk.chunk in
     let n = c.ones_between-n.result in
-    let a : c.chunk_boundary-from.result ≡ boundary offset len chunk = c.chunk_boundary-from.ensures in
-    let b : c.chunk_boundary-to.result ≡ boundary offset len (chunk + 1) = c.chunk_boundary-to.ensures in
-    let ones : n ≡ length (kept_between_places q (boundary offset len chunk) (boundary offset len (chunk + 1))) = c.ones_between-n.ensures ∙ ap₂ (set_between w) a b ∙ set_in_chunk w offset chunk in
-    let next = count_next q offset len chunk c.requires.small in
-    let few = kept_few q 0 (boundary offset len (chunk + 1)) in
+    let next = ones_next w offset chunk n c.requires.small (c.ones_between-n.ensures ∙ ap₂ (set_between w) c.chunk_boundary-from.ensures c.chunk_boundary-to.ensures) in
+    let few = kept_few (window_bit w) 0 (boundary offset w.len (chunk + 1)) in
     let same = c.loop-chunk.invariant.3 in
     let short = c.requires.short in
     let fits : c.loop-chunk.count + n < 2 ^ 64 = omega arith in
     search rules
 
-pub take-requires : goal.take-requires
-take-requires c =
+pub take-requires-clause-fits : goal.take-requires-clause-fits
+take-requires-clause-fits c =
     let w = c.args.window in
-    let q = window_bit w in
-    let len = w.len in
     let offset = c.args.offset in
     let chunk = c.loop-chunk.chunk in
     let n = c.ones_between-n.result in
-    let a : c.chunk_boundary-from.result ≡ boundary offset len chunk = c.chunk_boundary-from.ensures in
-    let b : c.chunk_boundary-to.result ≡ boundary offset len (chunk + 1) = c.chunk_boundary-to.ensures in
-    let ones : n ≡ length (kept_between_places q (boundary offset len chunk) (boundary offset len (chunk + 1))) = c.ones_between-n.ensures ∙ ap₂ (set_between w) a b ∙ set_in_chunk w offset chunk in
-    let ne = c.if-n-eq0.false in
-    let next = count_next q offset len chunk c.requires.small in
-    let few = kept_few q 0 (boundary offset len (chunk + 1)) in
+    let next = ones_next w offset chunk n c.requires.small (c.ones_between-n.ensures ∙ ap₂ (set_between w) c.chunk_boundary-from.ensures c.chunk_boundary-to.ensures) in
+    let few = kept_few (window_bit w) 0 (boundary offset w.len (chunk + 1)) in
     let same = c.loop-chunk.invariant.3 in
-    let weight = c.loop-chunk.invariant.2 in
     let short = c.requires.short in
-    record { ahead = c.loop-chunk.invariant.1; some = omega arith; fits = omega arith }
+    let weight = c.loop-chunk.invariant.2 in
+    omega arith
 
 pub loop-chunk-preserved : goal.loop-chunk-preserved
 loop-chunk-preserved c =
@@ -103,15 +92,6 @@ loop-chunk-preserved c =
     let part = kept_between_places q (boundary offset len chunk) (boundary offset len (chunk + 1)) in
     let on = c.take.ensures.tallied (at offset (kept_between_places q 0 (boundary offset len chunk))) (at offset part) inv.0 (chunk_here q offset len chunk c.requires.small) (length-map part (moved offset) ∙ sym ones) in
     (subst (Tallied t c.take.new.self) (sym (places_next q offset len chunk c.requires.small)) on, omega arith, omega arith, omega arith)
-
-pub end-requires : goal.end-requires
-end-requires c =
-    let w = c.args.window in
-    let few = kept_few (window_bit w) 0 (boundary c.args.offset w.len c.loop-chunk.chunk) in
-    let same = c.loop-chunk.invariant.3 in
-    let weight = c.loop-chunk.invariant.2 in
-    let short = c.requires.short in
-    omega arith
 
 pub returns-in_err-fee : goal.returns-in_err-fee
 returns-in_err-fee c =

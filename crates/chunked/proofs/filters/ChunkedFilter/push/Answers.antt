@@ -25,7 +25,7 @@ serve-requires g c =
     let gave = c.in_ok-receipt.ensures ∙ ap (λ t. answer t c.args.push) terms in
     let a = accepted L s c.args.push _ (sym gave) in
     let room = roomy _ _ a.roomy in
-    record { formed = a.formed; small = room.0; granted = a.allowed; room = room.1 }
+    record { formed = a.formed; small = room.0; granted = record { allowed = a.allowed; room = room.1 } }
 
 pub returns : goal.returns
 returns g c =

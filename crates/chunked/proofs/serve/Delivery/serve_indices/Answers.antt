@@ -35,7 +35,7 @@ invariant_of-piece g c =
     let v = c.in-Some.ensures in
     let b = c.count_below-n.ensures in
     let s = c.split_at.ensures in
-    let step = index_step (limit_at_width g.D.Item.Element.WIDTH) g.D.ChunkDecoder.readings g.D.ChunkDecoder.allowance c.args.self.now c.args.offset c.args.indices.now c.loop-first.self c.loop-first.rest.now c.loop-first.invariant c.requires.small c.requires.rising v.item.3.0 c.in-Some.first.now (v.item.3.1 0) g.D.ChunkDecoder.whole c.requires.granted c.requires.room c.count_below-n.result c.split_at.result.0.now c.split_at.result.1.now b.within b.below b.past s.front s.back in
+    let step = index_step (limit_at_width g.D.Item.Element.WIDTH) g.D.ChunkDecoder.readings g.D.ChunkDecoder.allowance c.args.self.now c.args.offset c.args.indices.now c.loop-first.self c.loop-first.rest.now c.loop-first.invariant c.requires.small c.requires.rising v.item.3.0 c.in-Some.first.now (v.item.3.1 0) g.D.ChunkDecoder.whole c.requires.granted.allowed c.requires.granted.room c.count_below-n.result c.split_at.result.0.now c.split_at.result.1.now b.within b.below b.past s.front s.back in
     record { within = step.within }
 
 pub serve_chunk-requires : goal.serve_chunk-requires
@@ -43,7 +43,7 @@ serve_chunk-requires g c =
     let v = c.in-Some.ensures in
     let b = c.count_below-n.ensures in
     let s = c.split_at.ensures in
-    let step = index_step (limit_at_width g.D.Item.Element.WIDTH) g.D.ChunkDecoder.readings g.D.ChunkDecoder.allowance c.args.self.now c.args.offset c.args.indices.now c.loop-first.self c.loop-first.rest.now c.loop-first.invariant c.requires.small c.requires.rising v.item.3.0 c.in-Some.first.now (v.item.3.1 0) g.D.ChunkDecoder.whole c.requires.granted c.requires.room c.count_below-n.result c.split_at.result.0.now c.split_at.result.1.now b.within b.below b.past s.front s.back in
+    let step = index_step (limit_at_width g.D.Item.Element.WIDTH) g.D.ChunkDecoder.readings g.D.ChunkDecoder.allowance c.args.self.now c.args.offset c.args.indices.now c.loop-first.self c.loop-first.rest.now c.loop-first.invariant c.requires.small c.requires.rising v.item.3.0 c.in-Some.first.now (v.item.3.1 0) g.D.ChunkDecoder.whole c.requires.granted.allowed c.requires.granted.room c.count_below-n.result c.split_at.result.0.now c.split_at.result.1.now b.within b.below b.past s.front s.back in
     step.servable
 
 pub loop-first-smaller : goal.loop-first-smaller
@@ -51,7 +51,7 @@ loop-first-smaller g c =
     let v = c.in-Some.ensures in
     let b = c.count_below-n.ensures in
     let s = c.split_at.ensures in
-    let step = index_step (limit_at_width g.D.Item.Element.WIDTH) g.D.ChunkDecoder.readings g.D.ChunkDecoder.allowance c.args.self.now c.args.offset c.args.indices.now c.loop-first.self c.loop-first.rest.now c.loop-first.invariant c.requires.small c.requires.rising v.item.3.0 c.in-Some.first.now (v.item.3.1 0) g.D.ChunkDecoder.whole c.requires.granted c.requires.room c.count_below-n.result c.split_at.result.0.now c.split_at.result.1.now b.within b.below b.past s.front s.back in
+    let step = index_step (limit_at_width g.D.Item.Element.WIDTH) g.D.ChunkDecoder.readings g.D.ChunkDecoder.allowance c.args.self.now c.args.offset c.args.indices.now c.loop-first.self c.loop-first.rest.now c.loop-first.invariant c.requires.small c.requires.rising v.item.3.0 c.in-Some.first.now (v.item.3.1 0) g.D.ChunkDecoder.whole c.requires.granted.allowed c.requires.granted.room c.count_below-n.result c.split_at.result.0.now c.split_at.result.1.now b.within b.below b.past s.front s.back in
     step.fewer
 
 pub loop-first-preserved : goal.loop-first-preserved
@@ -59,7 +59,7 @@ loop-first-preserved g c =
     let v = c.in-Some.ensures in
     let b = c.count_below-n.ensures in
     let s = c.split_at.ensures in
-    let step = index_step (limit_at_width g.D.Item.Element.WIDTH) g.D.ChunkDecoder.readings g.D.ChunkDecoder.allowance c.args.self.now c.args.offset c.args.indices.now c.loop-first.self c.loop-first.rest.now c.loop-first.invariant c.requires.small c.requires.rising v.item.3.0 c.in-Some.first.now (v.item.3.1 0) g.D.ChunkDecoder.whole c.requires.granted c.requires.room c.count_below-n.result c.split_at.result.0.now c.split_at.result.1.now b.within b.below b.past s.front s.back in
+    let step = index_step (limit_at_width g.D.Item.Element.WIDTH) g.D.ChunkDecoder.readings g.D.ChunkDecoder.allowance c.args.self.now c.args.offset c.args.indices.now c.loop-first.self c.loop-first.rest.now c.loop-first.invariant c.requires.small c.requires.rising v.item.3.0 c.in-Some.first.now (v.item.3.1 0) g.D.ChunkDecoder.whole c.requires.granted.allowed c.requires.granted.room c.count_below-n.result c.split_at.result.0.now c.split_at.result.1.now b.within b.below b.past s.front s.back in
     step.more c.serve_chunk.new.self c.serve_chunk.ensures
 
 pub returns : goal.returns
