@@ -112,6 +112,22 @@ impl Tally {
         ensures current { self.new.chunk ≡ chunk }
         ensures weight { self.new.fee + 1024 * self.new.count ≤ self.old.fee + 1024 * (self.old.count + n) }
     {
+        if chunk == self.chunk && self.count > 0 {
+            self.count += n;
+        } else {
+            self.take_anew(terms, chunk, n);
+        }
+    }
+
+    /// Takes the next `n` places, where their chunk may be another one.
+    fn take_anew(&mut self, terms: &Terms, chunk: u64, n: u64)
+        requires ahead { self.old.chunk ≤ chunk }
+        requires some { 0 < n }
+        requires fits { self.old.fee + 1024 * (self.old.count + n) < 2 ^ 64 }
+        ensures tallied { (ps ys : List ℕ) → Tallied terms.now self.old ps → AllByRecursion (λ p. p / 1024 ≡ chunk) ys → length ys ≡ n → Tallied terms.now self.new (ps ++ ys) }
+        ensures current { self.new.chunk ≡ chunk }
+        ensures weight { self.new.fee + 1024 * self.new.count ≤ self.old.fee + 1024 * (self.old.count + n) }
+    {
         if chunk != self.chunk {
             self.fee += chunk_price(terms.limit, self.count);
             self.chunk = chunk;
