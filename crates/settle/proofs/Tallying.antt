@@ -1,5 +1,5 @@
 -- One more part of the places on a tally.
-use Rattle.std.proofs.Common.{◌≡◌, ℕ, zero, suc, ◌+◌, ◌-◌, ◌*◌, ◌/◌, ◌<◌, ◌≤◌, Bool, true, false, leb, ◌⊎◌, List, [], ◌∷◌, ◌++◌, length, is_some, Some, None, Option, sym, refl, ap, ◌∙◌, subst, ap₂, inl, inr, arith}
+use Rattle.std.proofs.Common.{◌≡◌, ℕ, zero, suc, ◌+◌, ◌-◌, ◌*◌, ◌/◌, ◌<◌, ◌≤◌, Bool, true, false, leb, ◌⊎◌, List, [], ◌∷◌, ◌++◌, length, is_some, Some, None, Option, sym, refl, ap, ◌∙◌, subst, ap₂, inl, inr, ⊎_elim, arith}
 use Rattle.std.specs.List.{range_with_len, AllByRecursion}
 use Rattle.std.proofs.lemmas.List.Elements.{filter-append}
 use Rattle.std.proofs.ByRecursion.{All-append, All-weaker}
@@ -124,6 +124,17 @@ module _ (t : Terms) (y : Tally) (ps ys : List ℕ) (c n : ℕ) (h : Tallied t y
   pub past_still : (o : Option ℕ) → 0 < n → o ≡ y.beyond → is_some o ≡ true → first (past_source t.chunks) (ps ++ ys) ≡ beyond_fault o
   past_still None some e f = let z : ◌≡◌ {A = ℕ} 0 1 = cc in absurd (omega arith)
   past_still (Some b) some e f = both some ∙ ap (λ o. or_else (beyond_fault o) (when (leb t.chunks c) (Beyond c))) (sym e)
+
+  -- the chunk was reached before
+  pub past_same : 0 < n → c ≡ y.chunk → 0 < y.count → first (past_source t.chunks) (ps ++ ys) ≡ beyond_fault y.beyond
+  past_same some e counted = go y.beyond refl
+    where
+      none_past : first (past_source t.chunks) ps ≡ None → t.chunks ≤ y.chunk → y.count ≡ 0
+      none_past none l = h.count ∙ ap length (none_kept (in_chunk y.chunk) ps (All-weaker (λ p. past_source t.chunks p ≡ None) (λ p. in_chunk y.chunk p ≡ false) (λ p g. let below = leb-false t.chunks (p / 1024) (when_none _ _ g) in ne_eqb (p / 1024) y.chunk (λ k. omega arith)) ps (first_none (past_source t.chunks) ps none)))
+
+      go : (o : Option ℕ) → y.beyond ≡ o → first (past_source t.chunks) (ps ++ ys) ≡ beyond_fault y.beyond
+      go None f = ⊎_elim (λ l. past_not some l) (λ l. absurd (let z = none_past (h.beyond ∙ ap beyond_fault f) (omega arith) in omega arith)) (cases_lt c t.chunks)
+      go (Some b) f = past_still y.beyond some refl (ap is_some f)
 
 -- a tally at chunk c: the one before if that was its chunk, and else one that counts anew
 pub record Turned (L : ℕ) (y : Tally) (c : ℕ) (z : Tally) : Type 0 where

@@ -123,8 +123,25 @@ impl Tally {
         }
     }
 
-    /// Takes the places from `from` up to `to`, chunk by chunk.
+    /// Takes the places from `from` up to `to`, which mostly lie in the chunk that is counted already.
     fn take_run(&mut self, terms: &Terms, from: u64, to: u64)
+        requires ahead { self.old.chunk * 1024 ≤ from }
+        requires order { from < to }
+        requires bound { to < 2 ^ 63 }
+        requires fits { self.old.fee + 1024 * (self.old.count + (to - from)) < 2 ^ 64 }
+        ensures tallied { (ps : List ℕ) → Tallied terms.now self.old ps → Tallied terms.now self.new (ps ++ range_with_len from (to - from)) }
+        ensures current { self.new.chunk * 1024 ≤ to }
+        ensures weight { self.new.fee + 1024 * self.new.count ≤ self.old.fee + 1024 * (self.old.count + (to - from)) }
+    {
+        if self.count > 0 && to <= (self.chunk + 1) * CHUNK {
+            self.count += to - from;
+        } else {
+            self.take_parts(terms, from, to);
+        }
+    }
+
+    /// Takes the places from `from` up to `to`, chunk by chunk.
+    fn take_parts(&mut self, terms: &Terms, from: u64, to: u64)
         requires ahead { self.old.chunk * 1024 ≤ from }
         requires order { from < to }
         requires bound { to < 2 ^ 63 }

@@ -1,7 +1,7 @@
 use Rattle.std.proofs.Common.{◌≡◌, ℕ, ◌+◌, ◌-◌, ◌*◌, ◌/◌, ◌<◌, ◌≤◌, List, ◌++◌}
 use Rattle.std.specs.List.{range_with_len}
 use Rattle.settle.specs.Tallies.{Tallied}
-use Rattle.settle.proofs.settle.Tally.take_run.Given as goal
+use Rattle.settle.proofs.settle.Tally.take_parts.Given as goal
 
 -- the places before `at`, which lies in the chunk that ends at `end`
 abbrev pub invariant-loop-end : goal.invariant-loop-end
