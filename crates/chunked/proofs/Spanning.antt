@@ -4,7 +4,7 @@ use borrow.Rule.Slice.PartMut.{put_mid}
 use Rattle.std.specs.List.{range_with_len, between, flat_map, AllByRecursion}
 use Rattle.std.proofs.lemmas.List.FromFn.{length-range_with_len}
 use Rattle.std.proofs.ByRecursion.{All-append, All-get_or, All-map, All-weaker}
-use Rattle.std.proofs.lemmas.List.{append_assoc, append-nil, drop-drop, length-append, map-append, take-append-drop, take_more, take_rest}
+use Rattle.std.proofs.lemmas.List.{append_assoc, append-nil, drop-drop, length-append, length-map, map-append, take-append-drop, take_more, take_rest}
 use Rattle.std.proofs.lemmas.Bool.{cases_lt}
 use Rattle.std.proofs.lemmas.List.Edits.{between_more}
 use Rattle.selection.specs.declared.selections.Run.{Run}
@@ -248,3 +248,7 @@ span_inside offset lo hi base n rs h l = All-map (λ p. p < n) (shifted 0 base) 
         All-append (λ p. shifted 0 base p < n) (spanned offset lo hi r) (in_span offset lo hi rs)
         (All-weaker (λ p. (span_start offset lo hi r ≤ p) × (p < span_start offset lo hi r + (span_end offset hi r - span_start offset lo hi r))) (λ p. shifted 0 base p < n) (λ p k. omega arith) (spanned offset lo hi r) (rising_all (span_start offset lo hi r) (span_start offset lo hi r + (span_end offset hi r - span_start offset lo hi r)) (spanned offset lo hi r) (rising_counting (span_start offset lo hi r) (span_end offset hi r - span_start offset lo hi r) (span_start offset lo hi r + (span_end offset hi r - span_start offset lo hi r)) (omega arith))))
         (each rs h.1)
+
+-- room for what is picked is room for the places
+pub picked_room : (f : ℕ → ℕ) (xs : List ℕ) (n : ℕ) → length (map f xs) ≤ n → length xs ≤ n
+picked_room f xs n h = let same = length-map xs f in omega arith

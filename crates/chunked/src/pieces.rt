@@ -88,20 +88,28 @@ impl<'a> Piece for RunPiece<'a> {
         self.count
     }
 
+    #[tactic(auto, using(crate::proofs::Spanning::span_ok, crate::proofs::Spanning::span_room))]
     fn list(&self, out: &mut [u64]) {
-        spread_runs(self.runs, self.offset, self.lo, self.hi, self.base, out);
+        let runs = self.runs;
+        let mut at = 0;
+        for run in runs {
+            let piece = cut_run(*run, self.offset, self.lo, self.hi);
+            let n = (piece.end - piece.start) as usize;
+            fill_counting(&mut out[at..at + n], piece.start - self.base);
+            at += n;
+        }
     }
 
+    #[tactic(auto, using(crate::proofs::Spanning::span_ok, crate::proofs::Spanning::span_room))]
     fn copy<T: Element>(&self, chunk: &[T], dst: &mut [T]) {
-        copy_runs(
-            chunk,
-            self.runs,
-            self.offset,
-            self.lo,
-            self.hi,
-            self.base,
-            dst,
-        );
+        let runs = self.runs;
+        let mut at = 0;
+        for run in runs {
+            let piece = cut_run(*run, self.offset, self.lo, self.hi);
+            let n = (piece.end - piece.start) as usize;
+            copy_part(chunk, (piece.start - self.base) as usize, n, &mut dst[at..]);
+            at += n;
+        }
     }
 }
 
@@ -124,50 +132,6 @@ fn fill_counting(out: &mut [u64], from: u64)
 {
     for (k, slot) in out.iter_mut().enumerate() {
         *slot = from + k as u64;
-    }
-}
-
-/// Writes the places of runs within bounds, less `base`, to the first places of `out`.
-#[tactic(auto, using(crate::proofs::Spanning::span_ok, crate::proofs::Spanning::span_room))]
-fn spread_runs(runs: &[Run], offset: u64, lo: u64, hi: u64, base: u64, out: &mut [u64])
-    requires runs { AllByRecursion (Spans offset lo hi base) runs.now }
-    requires bound { hi < 2 ^ 63 }
-    requires room { length (in_span offset lo hi runs.now) ≤ length out.old }
-    ensures { out.new ≡ splice out.old 0 (map (shifted 0 base) (in_span offset lo hi runs.now)) }
-{
-    let mut at = 0;
-    for run in runs {
-        let piece = cut_run(*run, offset, lo, hi);
-        let n = (piece.end - piece.start) as usize;
-        fill_counting(&mut out[at..at + n], piece.start - base);
-        at += n;
-    }
-}
-
-/// Copies what stands in `src` at the places of runs within bounds, less `base`, to the first
-/// places of `dst`.
-#[tactic(auto, using(crate::proofs::Spanning::span_ok, crate::proofs::Spanning::span_room))]
-fn copy_runs<T: Copy>(
-    src: &[T],
-    runs: &[Run],
-    offset: u64,
-    lo: u64,
-    hi: u64,
-    base: u64,
-    dst: &mut [T],
-)
-    requires runs { AllByRecursion (Spans offset lo hi base) runs.now }
-    requires bound { hi < 2 ^ 63 }
-    requires inside { hi ≤ base + length src.now }
-    requires room { length (in_span offset lo hi runs.now) ≤ length dst.old }
-    ensures { dst.new ≡ splice dst.old 0 (gather src.now (map (shifted 0 base) (in_span offset lo hi runs.now))) }
-{
-    let mut at = 0;
-    for run in runs {
-        let piece = cut_run(*run, offset, lo, hi);
-        let n = (piece.end - piece.start) as usize;
-        copy_part(src, (piece.start - base) as usize, n, &mut dst[at..]);
-        at += n;
     }
 }
 

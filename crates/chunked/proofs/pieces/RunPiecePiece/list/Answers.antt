@@ -1,4 +1,4 @@
-use Rattle.std.proofs.Common.{◌≡◌, ℕ, ◌+◌, ◌-◌, ◌++◌, map, length, get_or, take, drop, sym, ap, ◌∙◌, ap₂, arith}
+use Rattle.std.proofs.Common.{◌≡◌, ℕ, ◌+◌, ◌-◌, ◌++◌, map, length, get_or, take, drop, sym, ap, ◌∙◌, ap₂, arith, rules}
 use borrow.Rule.Slice.PartMut.{put_mid}
 use Rattle.std.specs.List.{range_with_len}
 use Rattle.std.proofs.lemmas.List.FromFn.{length-range_with_len}
@@ -7,28 +7,35 @@ use Rattle.std.proofs.lemmas.List.{length-drop, length-map, length-take, map-app
 use Rattle.selection.specs.Selected.{no_run}
 use Rattle.kernels.specs.Moved.{shifted, splice}
 use Rattle.chunked.specs.Spans.{Spans, in_span, span_end, span_start, spanned}
-use Rattle.chunked.proofs.Spanning.{counting_less, put_more, span_take_count, span_take_more, span_take_most}
-use Rattle.chunked.proofs.pieces.spread_runs.Goals as goal
+use Rattle.chunked.proofs.Spanning.{counting_less, picked_room, put_more, span_room, span_take_count, span_take_more, span_take_most}
+use Rattle.chunked.proofs.pieces.RunPiecePiece.list.Goals as goal
+
+pub slice_bounds-fill_counting-end : goal.slice_bounds-fill_counting-end
+slice_bounds-fill_counting-end c =
+    let p = c.args.self.now in
+    let room = picked_room (shifted 0 p.base) (in_span p.offset p.lo p.hi p.runs.now) (length c.args.out.now) c.requires in
+    let fits = span_room p.offset p.lo p.hi p.runs.now c.loop-run.run-index c.loop-run.at (length c.args.out.now) c.loop-run-test.true c.loop-run.invariant.0 room in
+    search rules
 
 pub loop-run-preserved : goal.loop-run-preserved
 loop-run-preserved c =
-    let runs = c.args.runs.now in
+    let runs = c.args.self.now.runs.now in
     let i = c.loop-run.run-index in
-    let offset = c.args.offset in
-    let lo = c.args.lo in
-    let hi = c.args.hi in
+    let offset = c.args.self.now.offset in
+    let lo = c.args.self.now.lo in
+    let hi = c.args.self.now.hi in
     let r = get_or runs i no_run in
     let here = c.loop-run-test.true in
-    let ok = All-get_or (Spans offset lo hi c.args.base) runs i no_run here c.requires.runs in
+    let ok = All-get_or (Spans offset lo hi c.args.self.now.base) runs i no_run here c.args.self.now.spans in
     let a : c.cut_run-piece.result.start ≡ span_start offset lo hi r = ap (λ x. x.start) c.cut_run-piece.ensures in
     let b : c.cut_run-piece.result.«end» ≡ span_end offset hi r = ap (λ x. x.«end») c.cut_run-piece.ensures in
     let ordered = ok.ordered in
     let above = ok.above in
     let count = span_take_count offset lo hi runs i here in
     let most = span_take_most offset lo hi runs (i + 1) in
-    let room = c.requires.room in
+    let room = picked_room (shifted 0 c.args.self.now.base) (in_span offset lo hi runs) _ c.requires in
     let inv = c.loop-run.invariant.0 in
-    let base = c.args.base in
+    let base = c.args.self.now.base in
     let n : ℕ = span_end offset hi r - span_start offset lo hi r in
     let vs = map (shifted 0 base) (in_span offset lo hi (take i runs)) in
     let ws = map (shifted 0 base) (spanned offset lo hi r) in
@@ -47,4 +54,4 @@ loop-run-preserved c =
     )
 
 pub returns : goal.returns
-returns c = c.loop-run.invariant.1 ∙ ap (λ rs. splice c.args.out.now 0 (map (shifted 0 c.args.base) (in_span c.args.offset c.args.lo c.args.hi rs))) (take_all c.loop-run.run-index c.args.runs.now c.loop-run-test.false)
+returns c = c.loop-run.invariant.1 ∙ ap (λ rs. splice c.args.out.now 0 (map (shifted 0 c.args.self.now.base) (in_span c.args.self.now.offset c.args.self.now.lo c.args.self.now.hi rs))) (take_all c.loop-run.run-index c.args.self.now.runs.now c.loop-run-test.false)
