@@ -8,7 +8,6 @@ ghost use Rattle.chunked.specs.Spans.{Spans, in_span, span_end, span_start};
 
 use kernels::{Element, MaskBits, compact_words, copy_at, copy_part, list_words};
 use selection::Run;
-use source::CHUNK;
 
 /// The part of a selection that lies in one chunk.
 pub(crate) trait Piece {
@@ -81,6 +80,7 @@ pub(crate) struct RunPiece<'a> {
     ghost counted: { count ≡ length (in_span offset lo hi runs.now) },
 }
 
+// `list` and `copy` differ in what they do with a cut run.
 impl<'a> Piece for RunPiece<'a> {
     ghost picks = { λ p. map (shifted 0 p.base) (in_span p.offset p.lo p.hi p.runs.now) };
 

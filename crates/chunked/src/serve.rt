@@ -17,6 +17,8 @@ use selection::{Run, Selection, Window};
 use settle::{Push, chunk_boundary};
 use source::{CHUNK, ChunkDecoder};
 
+// A source has two calls, and these are one call each.
+
 /// Fetches a chunk to the places of `output` from `at` on.
 fn fetch_chunk<D: ChunkDecoder>(source: &mut D, chunk: u64, output: &mut [D::Item], at: usize)
     requires within { at ≤ length output.old }
@@ -25,6 +27,7 @@ fn fetch_chunk<D: ChunkDecoder>(source: &mut D, chunk: u64, output: &mut [D::Ite
     ensures paid { D.ChunkDecoder.allowance source.new ≡ D.ChunkDecoder.allowance source.old - length whole_chunk }
     ensures wrote { output.new ≡ splice output.old at (gather (D.ChunkDecoder.readings source.old) (map (place_in chunk) whole_chunk)) }
 {
+    // nothing stands against it, so it is accepted
     let _ = source.decode_chunk(chunk, &mut output[at..]);
 }
 
@@ -42,6 +45,7 @@ fn fetch_indices<D: ChunkDecoder>(
     ensures paid { D.ChunkDecoder.allowance source.new ≡ D.ChunkDecoder.allowance source.old - length indices.now }
     ensures wrote { output.new ≡ splice output.old at (gather (D.ChunkDecoder.readings source.old) (map (place_in chunk) indices.now)) }
 {
+    // nothing stands against it, so it is accepted
     let _ = source.decode_indices(chunk, indices, &mut output[at..]);
 }
 
@@ -236,6 +240,7 @@ impl<'a, D: ChunkDecoder> Delivery<'a, D> {
         requires granted { Granted (limit_at_width D.Item.Element.WIDTH) D.ChunkDecoder.readings D.ChunkDecoder.allowance self.old (map (moved offset.by) (window_positions window)) }
         ensures { Delivered (limit_at_width D.Item.Element.WIDTH) D.ChunkDecoder.readings D.ChunkDecoder.allowance self.old self.new (map (moved offset.by) (window_positions window.entry)) }
     {
+        // chunks are numbers here, no items of a list
         for chunk in 0..(offset.by + window.len).div_ceil(CHUNK) {
             let from = chunk_boundary(chunk, offset.by, window.len);
             let to = chunk_boundary(chunk + 1, offset.by, window.len);

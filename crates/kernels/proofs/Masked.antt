@@ -1,7 +1,6 @@
 -- The positions of a mask, word by word, and what is left of a compaction.
-use Rattle.std.proofs.Common.{◌≡◌, ℕ, zero, suc, ◌+◌, ◌-◌, ◌*◌, ◌/◌, ◌^◌, ◌<◌, ◌≤◌, Bool, true, false, ◌&&◌, ltb, List, [], ◌∷◌, ◌++◌, length, filter, Some, None, sym, refl, ap, ◌∙◌, subst, suc-add, arith, Bor}
+use Rattle.std.proofs.Common.{◌≡◌, ℕ, zero, suc, ◌+◌, ◌-◌, ◌*◌, ◌/◌, ◌^◌, ◌<◌, ◌≤◌, Bool, true, false, ◌&&◌, ltb, List, [], ◌∷◌, ◌++◌, filter, Some, None, sym, refl, ap, ◌∙◌, subst, suc-add, arith, Bor}
 use Rattle.std.specs.List.{range_with_len, AllByRecursion}
-use Rattle.std.proofs.lemmas.List.FromFn.{length-range_with_len}
 use Rattle.std.proofs.lemmas.List.Elements.{filter-append}
 use Rattle.std.proofs.ByRecursion.{all_kept_by, All-weaker}
 use Rattle.std.proofs.lemmas.List.{append-nil}
@@ -9,7 +8,7 @@ use Rattle.std.proofs.lemmas.Bool.{and_right, lt-ltb, le-ltb}
 use Rattle.selection.specs.declared.windows.Window.{Window}
 use Rattle.selection.specs.Selected.{bit_of, window_bit, word_bit, word_of}
 use Rattle.selection.proofs.Bits.{bit_from}
-use Rattle.selection.proofs.Filtered.{kept_fewer_all, kept_same}
+use Rattle.selection.proofs.Filtered.{kept_same}
 use Rattle.selection.proofs.Rising.{rising_all, rising_counting}
 use Rattle.kernels.specs.declared.slice.MaskBits.{MaskBits}
 use Rattle.kernels.specs.declared.slice.MaskBits.TheVariants.{Words, Window as Framed}
@@ -95,10 +94,6 @@ words_mask ws n h = record { long = refl; enough = h.enough; close = h.close; cl
 pub words_selected : (ws : Bor (List ℕ)) (n : ℕ) → selected_by (Words ws n) ≡ mask_positions ws.now n
 unfolding selected_by mask_positions
 words_selected ws n = refl
-
-pub positions_fewer : (ws : List ℕ) (n : ℕ) → length (mask_positions ws n) ≤ n
-unfolding mask_positions
-positions_fewer ws n = let h = kept_fewer_all (words_bit ws) (range_with_len 0 n) in let e = length-range_with_len 0 n in omega arith
 
 -- words with the bits of a test
 pub positions_same : (ws : List ℕ) (q : ℕ → Bool) (n : ℕ) → ((i : ℕ) → i < n → words_bit ws i ≡ q i) → mask_positions ws n ≡ filter q (range_with_len 0 n)

@@ -10,7 +10,7 @@ use Rattle.kernels.specs.declared.targets.Listing.{Listing}
 use Rattle.kernels.specs.Moved.{gather, shifted, splice}
 use Rattle.kernels.specs.Masks.{Inside}
 use Rattle.kernels.specs.Ordered.{InOrder}
-use Rattle.kernels.specs.Sinks.{CanCopy, CanList, CanMove, Copied, Lists, Moves}
+use Rattle.kernels.specs.Targets.{CanCopy, CanList, CanMove, Copied, Lists, Moves}
 use Rattle.kernels.proofs.Gathered.{gather_append, length_gather, length_splice, splice_none, splice_splice}
 use Rattle.kernels.proofs.Masked.{all_parts}
 use Rattle.kernels.proofs.Rises.{drop_splice, gather_same, rising_inside, rising_left, rising_right}

@@ -2,4 +2,4 @@ pub mod Moved
 pub mod Masks
 pub mod Words
 pub mod Ordered
-pub mod Sinks
+pub mod Targets

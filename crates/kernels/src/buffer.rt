@@ -70,6 +70,7 @@ fn is_dense(width: usize, selected: u128, len: u128) -> bool
     requires few { selected < 2 ^ 64 }
     requires short { len < 2 ^ 64 }
 {
+    // the rule is a table by width
     match width {
         1 => true,
         2 | 4 => 2 * selected >= len,

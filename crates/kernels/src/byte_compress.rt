@@ -109,7 +109,7 @@ impl WordStep for ByTable {
     }
 }
 
-/// Puts the elements at the set bits of a byte, whose lowest bit stands for `base`: all eight as a block.
+/// Puts the elements at the set bits of a byte, whose lowest bit stands for `base`: a full byte as a block.
 fn put_byte<P: Target>(byte: u8, base: usize, target: &mut P)
     requires laws { InOrder P.can P.took }
     requires able { P.can target.old (set_bits 8 byte base) }

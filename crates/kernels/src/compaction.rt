@@ -39,6 +39,7 @@ impl WordStep for RunByRun {
     fn put_word<P: Target>(word: u64, base: usize, target: &mut P) {
         let mut w = word;
         let mut from = base;
+        // from run to run, however long they are
         while w != 0 {
             let z = w.trailing_zeros();
             w >>= z;

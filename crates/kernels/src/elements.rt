@@ -57,6 +57,7 @@ impl Element for Event {
 pub fn sparse_limit<T: Element>() -> u64
     ensures { result ≡ limit_at_width T.Element.WIDTH }
 {
+    // the rule is a table by width
     match T::WIDTH {
         1 => 16,
         2 => 32,

@@ -1,7 +1,7 @@
 //! What elements are put into.
 ghost use Rattle.std.specs.Prelude.{ℕ, ◌<◌, [], ◌∷◌, List};
 ghost use Rattle.std.specs.List.{range_with_len};
-ghost use Rattle.kernels.specs.Sinks.{CanCopy, CanList, CanMove, Copied, Lists, Moves};
+ghost use Rattle.kernels.specs.Targets.{CanCopy, CanList, CanMove, Copied, Lists, Moves};
 
 use super::slice::{copy_to, move_block};
 
@@ -91,6 +91,7 @@ impl Target for Listing<'_> {
     }
 
     fn put_run(&mut self, from: usize, n: usize) {
+        // the places are what is listed
         for place in from..from + n {
             self.put(place);
         }

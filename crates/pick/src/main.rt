@@ -7,7 +7,7 @@ use chunked::{ChunkedFilter, Push, Receipt};
 use doors::{AROUND, Door, SECONDS, STRETCHES, Summary, door_log, reading};
 use kernels::Event;
 use runs::{Batch, run_both};
-use selection::{Refusal, Run, Selection, Window};
+use selection::{Refusal, Selection, Window};
 use source::{ChunkDecoder, Ramp, Table};
 use std::alloc::{AllocError, Global};
 

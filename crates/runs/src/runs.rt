@@ -1,8 +1,7 @@
 //! Whole runs: a list of pushes on a new filter, and what holds of every such run.
 ghost use Rattle.std.specs.Prelude.{◌≡◌, length, take, None};
 ghost use Rattle.std.specs.List.{AllZip};
-ghost use Rattle.selection.specs.Refusals.{answered, settled};
-ghost use Rattle.kernels.specs.Moved.{limit_at_width, splice};
+ghost use Rattle.kernels.specs.Moved.{limit_at_width};
 ghost use Rattle.chunked.specs.Served.{state_of};
 ghost use Rattle.runs.specs.Runs.{SamePlaces, after, answers as answers_to, end_of, notes_fault, start_of};
 ghost use Rattle.runs.specs.Laws.{Agree, Alike, Balanced, Fresh, Ran, SamePick, formed_ones};

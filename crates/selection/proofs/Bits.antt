@@ -1,11 +1,13 @@
 -- Numbers and their bits.
-use Rattle.std.proofs.Common.{◌≡◌, ℕ, zero, suc, ◌+◌, ◌-◌, ◌*◌, ◌/◌, ◌%◌, ◌^◌, ◌<◌, ◌≤◌, min, Bool, true, false, cond, ◌&&◌, eqb, ltb, List, [], ◌∷◌, length, get_or, drop, filter, sym, refl, ap, ◌∙◌, ap₂, ⊎_elim, lt_of_lt_of_le, add-zero, add_assoc, mod-eq_of_lt, add_comm, pow-suc, arith, pow_mono, pow-add, shr-shr}
+use Rattle.std.proofs.Common.{◌≡◌, ℕ, zero, suc, ◌+◌, ◌-◌, ◌*◌, ◌/◌, ◌%◌, ◌^◌, ◌<◌, ◌≤◌, min, Bool, true, false, cond, ◌&&◌, ◌||◌, eqb, ltb, List, [], ◌∷◌, length, get_or, drop, filter, sym, refl, ap, ◌∙◌, ap₂, ⊎_elim, lt_of_lt_of_le, add-zero, add_assoc, mod-eq_of_lt, add_comm, pow-suc, arith, pow_mono, pow-add, shr-shr}
+use lib.Bits.{bit_or}
 use native.Mathlib.Nat.{div-eq_of_lt, zero-div}
 use lib.Count.{ones, ones_cat}
 use lib.Pow.{field, mod-mod-pow, mod-pow-add, high, low}
 use Rattle.std.specs.List.{range_with_len}
 use Rattle.std.proofs.lemmas.List.FromFn.{length-range_with_len}
 use Rattle.std.proofs.lemmas.Bool.{cases_lt, lt-ltb, le-ltb}
+use Rattle.std.proofs.lemmas.Nat.{or_shr, or_mod}
 use Rattle.selection.specs.Selected.{bit, bit_of, bit_past, bits_from, number_of_bits}
 use Rattle.selection.proofs.Filtered.{count_kept_more, kept_fewer_all}
 
@@ -95,6 +97,19 @@ from_own x n h = sym (from_bits x n ∙ mod-eq_of_lt h)
 
 pub from_by_bits : (x n : ℕ) (f : ℕ → Bool) → x < 2 ^ n → ((j : ℕ) → j < n → bit_of x j ≡ f j) → x ≡ number_of_bits f n
 from_by_bits x n f h e = from_own x n h ∙ from_same (bit_of x) f n e
+
+-- the bits of two numbers, joined
+pub bit_of_or : (a b j : ℕ) → bit_of (bit_or a b) j ≡ (bit_of a j || bit_of b j)
+bit_of_or a b j = ap (λ t. eqb (t % 2) 1) (or_shr a b j) ∙ ap (λ t. eqb t 1) (or_mod (a / 2 ^ j) (b / 2 ^ j) 1) ∙ go (a / 2 ^ j % 2) (b / 2 ^ j % 2) (omega arith) (omega arith)
+  where
+    go : (x y : ℕ) → x < 2 → y < 2 → eqb (bit_or x y) 1 ≡ (eqb x 1 || eqb y 1)
+    go zero zero h k = refl
+    go zero (suc zero) h k = refl
+    go (suc zero) zero h k = refl
+    go (suc zero) (suc zero) h k = refl
+    go zero (suc (suc y)) h k = absurd (omega arith)
+    go (suc zero) (suc (suc y)) h k = absurd (omega arith)
+    go (suc (suc x)) y h k = absurd (omega arith)
 
 -- bits that end at m make no more than the first m
 pub from_cut : (f : ℕ → Bool) (m n : ℕ) → number_of_bits (λ j. f j && ltb j m) n ≡ number_of_bits f (min m n)

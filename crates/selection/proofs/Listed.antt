@@ -12,7 +12,7 @@ use Rattle.selection.specs.declared.selections.Run.{Run}
 use Rattle.selection.specs.declared.refusals.Refusal.TheVariants.{Order, Past}
 use Rattle.selection.specs.declared.selections.Selection.TheVariants.{Bitmap, Indices, Runs}
 use Rattle.selection.specs.Refusals.{when, first, answered}
-use Rattle.selection.specs.Selected.{Rising, RunsRise, range, window_bit, window_fault, among, in_run, covered, index_fault, indices_fault, run_fault, runs_fault, no_run, positions, count_of, selection_fault}
+use Rattle.selection.specs.Selected.{Rising, RunsRise, range, window_bit, window_fault, among, in_run, covered, index_fault, indices_fault, run_fault, runs_fault, no_run, long, positions, count_of, selection_fault}
 use Rattle.selection.specs.Items.{listed_positions, single}
 use Rattle.selection.proofs.AsRuns.{single_faults}
 use Rattle.selection.proofs.Objections.{none_each, none_of, none_when, none_first, when_none, first_none, ok_answered}
@@ -157,6 +157,10 @@ runs_pick_formed rs n e = runs_pick n rs.now (runs_rise n rs.now e)
 pub count_window : (w : Window) (n : ℕ) → window_fault w ≡ None → n ≡ length (filter (window_bit w) (range_with_len 0 w.len)) → Ok n ≡ answered (selection_fault (Bitmap w)) (count_of (Bitmap w))
 unfolding selection_fault positions
 count_window w n e f = ap Ok f ∙ ok_answered _ _ e
+
+pub count_of_indices : (xs : Bor (List ℕ)) (n : ℕ) → selection_fault (Indices xs n) ≡ None → length xs.now ≡ count_of (Indices xs n)
+unfolding selection_fault
+count_of_indices xs n e = sym (ap length (indices_pick xs n (none_each (long n ∷ indices_fault n xs.now ∷ []) e).1.0))
 
 length_ranges : (rs : List Run) → sum_by (λ r. r.«end» - r.start) rs ≡ length (flat_map range rs)
 length_ranges [] = refl

@@ -12,7 +12,8 @@ use super::refusals::Refusal;
 use super::selections::{Run, Selection};
 use super::windows::Window;
 
-/// How many positions there are, the first of them, and the one after the last.
+/// How many positions there are, the first of them, and the one after the last. The count is needed in any case, and
+/// says whether there are any.
 #[derive(Clone, Copy)]
 struct Ends {
     count: u64,
@@ -67,6 +68,7 @@ fn window_ends(window: Window<'_>) -> Ends
         start: 0,
         end: 0,
     };
+    // by its number, since a position is 64 times that
     for k in 0..window.len.div_ceil(64) {
         ends = ends.with_word(64 * k, window.word(k));
     }

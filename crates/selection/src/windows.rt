@@ -79,6 +79,7 @@ impl Window<'_> {
         ensures { result ≡ length (filter (window_from self.entry first) (range_with_len 0 n)) }
     {
         let mut ones = 0;
+        // by its number, since a position is 64 times that
         for k in 0..n.div_ceil(64) {
             ones += u64::from(self.bits(first + 64 * k, n - 64 * k).count_ones());
         }

@@ -75,6 +75,16 @@ module _ (n : ℕ) (rs : List Run) where
   pub listed_fault_is : long n ≡ None → listed_fault n rs ≡ runs_fault n rs
   listed_fault_is l = not_too_long n (runs_fault n rs) l
 
+module _ (xs : Bor (List ℕ)) (n : ℕ) where
+  pub indices_fault_is : long n ≡ None → selection_fault (Indices xs n) ≡ indices_fault n xs.now
+  unfolding selection_fault
+  indices_fault_is l = not_too_long n (indices_fault n xs.now) l
+
+module _ (rs : Bor (List Run)) (n : ℕ) where
+  pub runs_fault_is : long n ≡ None → selection_fault (Runs rs n) ≡ runs_fault n rs.now
+  unfolding selection_fault
+  runs_fault_is l = not_too_long n (runs_fault n rs.now) l
+
 -- a well formed index list
 module _ (offset : ℕ) (xs : Bor (List ℕ)) (n : ℕ) (formed : selection_fault (Indices xs n) ≡ None) where
   parts : (n ≤ 16777216) × (indices_fault n xs.now ≡ None)

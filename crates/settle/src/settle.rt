@@ -153,6 +153,7 @@ impl Tally {
         let mut at = from;
         let mut chunk = from / CHUNK;
         let mut end = (chunk + 1) * CHUNK;
+        // from chunk to chunk
         while end < to {
             self.take(terms, chunk, end - at);
             at = end;
@@ -216,6 +217,7 @@ fn price_bitmap(terms: &Terms, offset: u64, window: Window<'_>) -> Result<Receip
 {
     let mut count = 0;
     let mut tally = Tally::new();
+    // chunks are numbers here, no items of a list
     for chunk in 0..(offset + window.len).div_ceil(CHUNK) {
         let from = chunk_boundary(chunk, offset, window.len);
         let to = chunk_boundary(chunk + 1, offset, window.len);

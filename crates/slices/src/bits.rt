@@ -68,6 +68,7 @@ fn append_window(source: Window<'_>, window: Window<'_>, acc: &mut Accumulator<'
     requires room { Room acc.old (length (window_positions window)) }
     ensures { Adds (map (window_bit source.entry) (window_positions window.entry)) acc.old acc.new }
 {
+    // two windows, read at the same number
     for k in 0..window.len.div_ceil(64) {
         append_word(source.word(k), window.word(k), acc);
     }
@@ -115,6 +116,7 @@ fn append_run(source: Window<'_>, run: Run, acc: &mut Accumulator<'_>)
     ensures { Adds (map (window_bit source.entry) (range run)) acc.old acc.new }
 {
     let len = run.end - run.start;
+    // parts of a run, which are no items of a list
     for k in 0..len.div_ceil(64) {
         let n = (len - 64 * k).min(64);
         acc.append(source.bits(run.start + 64 * k, n), n as u32);

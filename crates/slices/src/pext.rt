@@ -11,6 +11,7 @@ fn pext_byte(src: u64, mask: u8) -> u64
     ensures { result ≡ packed (map (bit_of src) (set_bits 8 mask 0)) }
 {
     let mut all = 0;
+    // the places of the row, the last of them first
     for j in (0..8usize).rev() {
         all = 2 * all + (src >> table_entry(mask, j)) % 2;
     }

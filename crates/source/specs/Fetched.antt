@@ -1,5 +1,5 @@
 -- What a source holds, and what a fetch does.
-use Rattle.std.specs.Prelude.{◌≡◌, ℕ, ◌+◌, ◌-◌, ◌*◌, ◌/◌, ◌%◌, ◌^◌, ◌≤◌, not, ◌||◌, List, [], ◌∷◌, map, length, Option, ◌==◌, nat_le, nat_lt, slice_index}
+use Rattle.std.specs.Prelude.{◌≡◌, ℕ, ◌+◌, ◌-◌, ◌*◌, ◌/◌, ◌%◌, ◌^◌, ◌≤◌, not, ◌||◌, List, [], ◌∷◌, map, length, Option, ◌==◌, nat_le, nat_lt, slice_index, min, take}
 use Rattle.std.specs.List.{range_with_len}
 use Rattle.selection.specs.declared.refusals.Refusal.{Refusal}
 use Rattle.selection.specs.declared.refusals.Refusal.TheVariants.{Output, Shape, Beyond, Index, Spent}
@@ -58,6 +58,13 @@ delivered h c is = record {
 unfoldable pub fetched : {T : Type 0} → Held T → ℕ → List ℕ → Held T
 fetched h c is = settled (fetch_fault h c is) h (delivered h c is)
 
+-- the whole chunks of a slice, and not too many of them
+abbrev pub whole_chunks : {T : Type 0} → List T → ℕ
+whole_chunks xs = min (chunks_of xs) 16384
+
+unfoldable pub whole_part : {T : Type 0} → List T → List T
+whole_part xs = take (1024 * whole_chunks xs) xs
+
 -- why a slice is no table: it would have other readings
 abbrev pub table_fault : {T : Type 0} → List T → Option Refusal
 table_fault xs = when (not (length xs % 1024 == 0) || nat_lt 16384 (chunks_of xs)) Shape
@@ -65,6 +72,10 @@ table_fault xs = when (not (length xs % 1024 == 0) || nat_lt 16384 (chunks_of xs
 -- reading i of a ramp
 abbrev pub ramp_at : ℕ → ℕ → ℕ → ℕ
 ramp_at start step i = (start + step * i) % 2 ^ 64
+
+-- the reading at index i of chunk c
+abbrev pub ramp_place : ℕ → ℕ → ℕ → ℕ → ℕ
+ramp_place start step c i = ramp_at start step (place_in c i)
 
 -- the first n readings of a ramp
 unfoldable pub ramped : ℕ → ℕ → ℕ → List ℕ

@@ -29,7 +29,7 @@ impl<R: Readings> Metered<R> {
         ensures { result ≡ answered (fetch_fault (holding (R.all self.now.readings) self.now.left output.now) chunk indices.now) tt }
     {
         self.admit_place(chunk)?;
-        if let Some(place) = odd_index(indices) {
+        if let Some(place) = index_past(indices) {
             return Err(Refusal::Index {
                 place: place as u64,
             });
@@ -101,7 +101,7 @@ impl<R: Readings> ChunkDecoder for Metered<R> {
 }
 
 /// The place of the first index that no chunk has.
-fn odd_index(indices: &[u64]) -> Option<usize>
+fn index_past(indices: &[u64]) -> Option<usize>
     ensures { result ≡ position (λ i. nat_le 1024 i) indices.now }
 {
     indices.iter().position(|index| *index >= CHUNK)

@@ -6,7 +6,6 @@ use super::decoder::{ChunkDecoder, MAX_CHUNKS};
 use super::metered::Metered;
 use super::readings::Readings;
 use selection::{Refusal, field_at};
-use std::alloc::AllocError;
 
 /// The most bits of a packed reading.
 const MAX_WIDTH: u32 = 32;
@@ -15,23 +14,13 @@ const MAX_WIDTH: u32 = 32;
 pub type Packed<'a> = Metered<Bits<'a>>;
 
 /// The readings are numbers of `width` bits, one after another, the lowest bit first.
-#[derive(Copy)]
+#[derive(Clone, Copy)]
 pub struct Bits<'a> {
     bytes: &'a [u8],
     width: u32,
     chunks: u64,
     ghost narrow: { width ≤ 32 },
     ghost few: { chunks ≤ 16384 },
-}
-
-impl Clone for Bits<'_> {
-    ghost is_clone = { λ x y. y ≡ x };
-
-    ghost is_infallible = { λ _. Unit {0} };
-
-    fn clone(&self) -> Result<Self, AllocError> {
-        Ok(*self)
-    }
 }
 
 impl<'a> Packed<'a> {

@@ -7,28 +7,17 @@ use super::decoder::{CHUNK, ChunkDecoder, MAX_CHUNKS};
 use super::metered::Metered;
 use super::readings::Readings;
 use selection::Refusal;
-use std::alloc::AllocError;
 
 /// A source of readings that are computed.
 pub type Ramp = Metered<Steps>;
 
 /// Reading `i` is `start + step * i`, modulo 2^64.
-#[derive(Copy)]
+#[derive(Clone, Copy)]
 pub struct Steps {
     start: u64,
     step: u64,
     chunks: u64,
     ghost few: { chunks ≤ 16384 },
-}
-
-impl Clone for Steps {
-    ghost is_clone = { λ x y. y ≡ x };
-
-    ghost is_infallible = { λ _. Unit {0} };
-
-    fn clone(&self) -> Result<Self, AllocError> {
-        Ok(*self)
-    }
 }
 
 impl Ramp {
@@ -66,6 +55,7 @@ impl Readings for Steps {
     fn reading(self, place: u64) -> u64 {
         self.start.wrapping_add(self.step.wrapping_mul(place))
     }
+
     /// Each reading is the one before it and a step.
     fn write_chunk(self, chunk: u64, output: &mut [u64]) {
         let mut next = self.reading(chunk * CHUNK);

@@ -1,6 +1,6 @@
 use Rattle.std.proofs.Common.{◌+◌, ◌-◌}
 use Rattle.std.specs.List.{range_with_len}
-use Rattle.kernels.specs.Sinks.{CanList, Lists}
+use Rattle.kernels.specs.Targets.{CanList, Lists}
 use Rattle.kernels.proofs.Putting.{Left}
 use Rattle.kernels.proofs.targets.ListingTarget.put_run.Given as goal
 
