@@ -82,3 +82,8 @@ groups = {g: fs for g, fs in groups.items() if len(fs) > 2 and not any(g < h and
 show("5 three or more parameters that travel together through three or more functions", [f"{len(fs)} times {', '.join(sorted(g))}: {', '.join(fs)}" for g, fs in sorted(groups.items(), key=lambda p: (-len(p[1]), -len(p[0]), sorted(p[0])))])
 show("6 a length or a place beside a slice", [f"{name} {f}: {', '.join(p)}" for name, f, p, _ in functions if set(p) & {"_len", "pos", "at", "n", "len"} and set(p) & {"dst", "out", "output", "words", "values", "bytes"}])
 show("7 a match on a number that says what to do", lines(r"match (width|T::)"))
+proofs = [n for n in (git("ls-tree", "-r", "--name-only", commit) if commit else git("ls-files", "-co", "--exclude-standard")).split("\n") if re.fullmatch(r"crates/\w+/proofs/.*\.antt", n)]
+texts = {n: git("show", f"{commit}:{n}") if commit else open(n).read() for n in proofs}
+answers = sum(len(re.findall(r"^pub [\w'-]+ :", t, re.M)) for n, t in texts.items() if n.endswith("Answers.antt"))
+lemmas = sum(len(re.findall(r"^(?:pub )?[\w'-]+ :", t, re.M)) for n, t in texts.items() if not n.endswith(("Answers.antt", "Invariants.antt")))
+print(f"\n8 proofs: {answers} answers, {lemmas} lemmas, {sum(t.count(chr(10)) for t in texts.values())} lines in {len(proofs)} files")
