@@ -252,3 +252,7 @@ span_inside offset lo hi base n rs h l = All-map (λ p. p < n) (shifted 0 base) 
 -- room for what is picked is room for the places
 pub picked_room : (f : ℕ → ℕ) (xs : List ℕ) (n : ℕ) → length (map f xs) ≤ n → length xs ≤ n
 picked_room f xs n h = let same = length-map xs f in omega arith
+
+-- where there is room for all that is picked, there is room for each piece after those before it
+pub piece_room : (offset lo hi base : ℕ) (rs : List Run) (i at room : ℕ) → i < length rs → at ≡ length (in_span offset lo hi (take i rs)) → length (map (shifted 0 base) (in_span offset lo hi rs)) ≤ room → at + (span_end offset hi (get_or rs i no_run) - span_start offset lo hi (get_or rs i no_run)) ≤ room
+piece_room offset lo hi base rs i at room l e h = span_room offset lo hi rs i at room l e (picked_room (shifted 0 base) (in_span offset lo hi rs) room h)

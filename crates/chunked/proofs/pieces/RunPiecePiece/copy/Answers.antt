@@ -5,7 +5,7 @@ use Rattle.selection.specs.Selected.{no_run}
 use Rattle.kernels.specs.Moved.{gather, shifted, splice}
 use Rattle.chunked.specs.Spans.{Spans, in_span, span_end, span_start, spanned}
 use Rattle.kernels.proofs.Gathered.{gather_append, gather_counting, length_gather}
-use Rattle.chunked.proofs.Spanning.{counting_less, picked_room, put_rest_more, span_inside, span_room, span_take_count, span_take_more, span_take_most}
+use Rattle.chunked.proofs.Spanning.{counting_less, picked_room, piece_room, put_rest_more, span_inside, span_take_count, span_take_more, span_take_most}
 use Rattle.chunked.proofs.pieces.RunPiecePiece.copy.Goals as goal
 
 wide_enough : (hi base n : ℕ) → hi ≤ base + 1024 → 1024 ≤ n → hi ≤ base + n
@@ -13,25 +13,29 @@ wide_enough hi base n near whole = omega arith
 
 pub offset_bounds-dst-at : goal.offset_bounds-dst-at
 offset_bounds-dst-at g c =
-    let fits = span_room c.args.self.now.offset c.args.self.now.lo c.args.self.now.hi c.args.self.now.runs.now c.loop-run.run-index c.loop-run.at (length c.args.dst.now) c.loop-run-test.true c.loop-run.invariant.0 (picked_room (shifted 0 c.args.self.now.base) (in_span c.args.self.now.offset c.args.self.now.lo c.args.self.now.hi c.args.self.now.runs.now) _ c.requires.room) in
+    let p = c.args.self.now in
+    let fits = piece_room p.offset p.lo p.hi p.base p.runs.now c.loop-run.run-index c.loop-run.at (length c.args.dst.now) c.loop-run-test.true c.loop-run.invariant.0 c.requires.room in
     let within : c.loop-run.at ≤ length c.args.dst.now = omega arith in
     search rules
 
 pub copy_part-requires-clause-room : goal.copy_part-requires-clause-room
 copy_part-requires-clause-room g c =
-    let fits = span_room c.args.self.now.offset c.args.self.now.lo c.args.self.now.hi c.args.self.now.runs.now c.loop-run.run-index c.loop-run.at (length c.args.dst.now) c.loop-run-test.true c.loop-run.invariant.0 (picked_room (shifted 0 c.args.self.now.base) (in_span c.args.self.now.offset c.args.self.now.lo c.args.self.now.hi c.args.self.now.runs.now) _ c.requires.room) in
+    let p = c.args.self.now in
+    let fits = piece_room p.offset p.lo p.hi p.base p.runs.now c.loop-run.run-index c.loop-run.at (length c.args.dst.now) c.loop-run-test.true c.loop-run.invariant.0 c.requires.room in
     let within : c.loop-run.at ≤ length c.args.dst.now = omega arith in
     search rules
 
 pub slice_bounds-copy_part-count : goal.slice_bounds-copy_part-count
 slice_bounds-copy_part-count g c =
-    let fits = span_room c.args.self.now.offset c.args.self.now.lo c.args.self.now.hi c.args.self.now.runs.now c.loop-run.run-index c.loop-run.at (length c.args.dst.now) c.loop-run-test.true c.loop-run.invariant.0 (picked_room (shifted 0 c.args.self.now.base) (in_span c.args.self.now.offset c.args.self.now.lo c.args.self.now.hi c.args.self.now.runs.now) _ c.requires.room) in
+    let p = c.args.self.now in
+    let fits = piece_room p.offset p.lo p.hi p.base p.runs.now c.loop-run.run-index c.loop-run.at (length c.args.dst.now) c.loop-run-test.true c.loop-run.invariant.0 c.requires.room in
     let within : c.loop-run.at ≤ length c.args.dst.now = omega arith in
     search rules
 
 pub slice_bounds-copy_part-start : goal.slice_bounds-copy_part-start
 slice_bounds-copy_part-start g c =
-    let fits = span_room c.args.self.now.offset c.args.self.now.lo c.args.self.now.hi c.args.self.now.runs.now c.loop-run.run-index c.loop-run.at (length c.args.dst.now) c.loop-run-test.true c.loop-run.invariant.0 (picked_room (shifted 0 c.args.self.now.base) (in_span c.args.self.now.offset c.args.self.now.lo c.args.self.now.hi c.args.self.now.runs.now) _ c.requires.room) in
+    let p = c.args.self.now in
+    let fits = piece_room p.offset p.lo p.hi p.base p.runs.now c.loop-run.run-index c.loop-run.at (length c.args.dst.now) c.loop-run-test.true c.loop-run.invariant.0 c.requires.room in
     let within : c.loop-run.at ≤ length c.args.dst.now = omega arith in
     search rules
 

@@ -7,14 +7,13 @@ use Rattle.std.proofs.lemmas.List.{length-drop, length-map, length-take, map-app
 use Rattle.selection.specs.Selected.{no_run}
 use Rattle.kernels.specs.Moved.{shifted, splice}
 use Rattle.chunked.specs.Spans.{Spans, in_span, span_end, span_start, spanned}
-use Rattle.chunked.proofs.Spanning.{counting_less, picked_room, put_more, span_room, span_take_count, span_take_more, span_take_most}
+use Rattle.chunked.proofs.Spanning.{counting_less, picked_room, piece_room, put_more, span_take_count, span_take_more, span_take_most}
 use Rattle.chunked.proofs.pieces.RunPiecePiece.list.Goals as goal
 
 pub slice_bounds-fill_counting-end : goal.slice_bounds-fill_counting-end
 slice_bounds-fill_counting-end c =
     let p = c.args.self.now in
-    let room = picked_room (shifted 0 p.base) (in_span p.offset p.lo p.hi p.runs.now) (length c.args.out.now) c.requires in
-    let fits = span_room p.offset p.lo p.hi p.runs.now c.loop-run.run-index c.loop-run.at (length c.args.out.now) c.loop-run-test.true c.loop-run.invariant.0 room in
+    let fits = piece_room p.offset p.lo p.hi p.base p.runs.now c.loop-run.run-index c.loop-run.at (length c.args.out.now) c.loop-run-test.true c.loop-run.invariant.0 c.requires in
     search rules
 
 pub loop-run-preserved : goal.loop-run-preserved
