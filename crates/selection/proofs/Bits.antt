@@ -1,5 +1,5 @@
 -- Numbers and their bits.
-use Rattle.std.proofs.Common.{◌≡◌, ℕ, zero, suc, ◌+◌, ◌-◌, ◌*◌, ◌/◌, ◌%◌, ◌^◌, ◌<◌, ◌≤◌, min, Bool, true, false, cond, ◌&&◌, ◌||◌, eqb, ltb, List, [], ◌∷◌, length, get_or, drop, filter, sym, refl, ap, ◌∙◌, ap₂, ⊎_elim, lt_of_lt_of_le, add-zero, add_assoc, mod-eq_of_lt, add_comm, pow-suc, arith, pow_mono, pow-add, shr-shr}
+use Rattle.std.proofs.Common.{◌≡◌, ℕ, zero, suc, ◌+◌, ◌-◌, ◌*◌, ◌/◌, ◌%◌, ◌^◌, ◌<◌, ◌≤◌, min, Bool, true, false, cond, ◌&&◌, ◌||◌, eqb, ltb, List, [], ◌∷◌, length, get_or, drop, filter, sym, refl, ap, ◌∙◌, ap₂, ⊎_elim, lt_of_lt_of_le, add-zero, add_assoc, mod-eq_of_lt, add_comm, pow-suc, arith, pow_pos, pow_mono, pow-add, shr-shr}
 use lib.Bits.{bit_or}
 use native.Mathlib.Nat.{div-eq_of_lt, zero-div}
 use lib.Count.{ones, ones_cat}
@@ -7,7 +7,7 @@ use lib.Pow.{field, mod-mod-pow, mod-pow-add, high, low}
 use Rattle.std.specs.List.{range_with_len}
 use Rattle.std.proofs.lemmas.List.FromFn.{length-range_with_len}
 use Rattle.std.proofs.lemmas.Bool.{cases_lt, lt-ltb, le-ltb}
-use Rattle.std.proofs.lemmas.Nat.{or_shr, or_mod}
+use Rattle.std.proofs.lemmas.Nat.{or_shr, or_mod, mod_below}
 use Rattle.selection.specs.Selected.{bit, bit_of, bit_past, bits_from, number_of_bits}
 use Rattle.selection.proofs.Filtered.{count_kept_more, kept_fewer_all}
 
@@ -26,6 +26,9 @@ bit_mod x n j h =
 -- a number below 2 ^ n has no bit from n on
 pub bit_above : (x n j : ℕ) → x < 2 ^ n → n ≤ j → bit_of x j ≡ false
 bit_above x n j l h = ap (λ t. eqb (t % 2) 1) (div-eq_of_lt (lt_of_lt_of_le l (pow_mono h)))
+
+pub bit_mod_past : (x n j : ℕ) → n ≤ j → bit_of (x % 2 ^ n) j ≡ false
+bit_mod_past x n j h = bit_above (x % 2 ^ n) n j (mod_below x (2 ^ n) (pow_pos n)) h
 
 -- bits of a number that is put together from two
 pub bit_low : (hi lo n j : ℕ) → lo < 2 ^ n → j < n → bit_of (hi * 2 ^ n + lo) j ≡ bit_of lo j

@@ -20,6 +20,15 @@ use Rattle.selection.proofs.Bits.{num_of, tally, bits_num, from_cut, from_lt, fr
 bits_low : (bytes : List ℕ) (n : ℕ) → bits_from bytes 0 n ≡ num_of bytes % 2 ^ n
 bits_low bytes n = bits_num bytes 0 n ∙ ap (λ x. x % 2 ^ n) (num_drop bytes 0)
 
+-- a byte in front of m bytes
+pub part_step : (bytes : List ℕ) (i m : ℕ) → get_or bytes i 0 < 256 → num_of (drop i bytes) % 2 ^ (8 * (m + 1)) ≡ num_of (drop (i + 1) bytes) % 2 ^ (8 * m) * 256 + get_or bytes i 0
+part_step bytes i m h =
+    let e : 8 * (m + 1) ≡ 8 * m + 8 = omega arith in
+    let s = num_step bytes i in
+    let q : num_of (drop i bytes) / 256 ≡ num_of (drop (i + 1) bytes) = omega arith in
+    let r : num_of (drop i bytes) % 256 ≡ get_or bytes i 0 = omega arith in
+    ap (λ t. num_of (drop i bytes) % 2 ^ t) e ∙ mod-pow-add (num_of (drop i bytes)) (8 * m) 8 ∙ ap₂ (λ a b. a % 2 ^ (8 * m) * 256 + b) q r
+
 -- the first eight bytes
 pub word_num : (bytes ws : List ℕ) → ws ≡ take 8 bytes → ((k : ℕ) → get_or bytes k 0 < 256) → get_or ws 0 0 + get_or ws 1 0 * 256 + get_or ws 2 0 * 65536 + get_or ws 3 0 * 16777216 + get_or ws 4 0 * 4294967296 + get_or ws 5 0 * 1099511627776 + get_or ws 6 0 * 281474976710656 + get_or ws 7 0 * 72057594037927936 ≡ bits_from bytes 0 64
 word_num bytes ws is small =

@@ -74,6 +74,10 @@ answered_ok (Some r) x y e = let z : ◌≡◌ {A = ℕ} 0 1 = cc in absurd (ome
 pub ok_answered : {X : Type 0} (o : Option Refusal) (x : X) → o ≡ None → Ok x ≡ answered o x
 ok_answered o x e = sym (ap (λ p. answered p x) e)
 
+pub same_answer : {X : Type 0} (o : Option Refusal) (x y : X) → (o ≡ None → x ≡ y) → answered o x ≡ answered o y
+same_answer None x y e = ap Ok (e refl)
+same_answer (Some r) x y e = refl
+
 pub answered_err : {X : Type 0} (o : Option Refusal) (x : X) (e : Refusal) → answered o x ≡ Err e → o ≡ Some e
 answered_err None x e h = let z : ◌≡◌ {A = ℕ} 0 1 = cc in absurd (omega arith)
 answered_err (Some r) x e h = cc

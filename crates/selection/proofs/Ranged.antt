@@ -376,6 +376,10 @@ run_ends n rs h l =
     runs_at lo hi (r ∷ rs) zero h l = (h.0, h.1, h.2)
     runs_at lo hi (r ∷ rs) (suc k) h l = let a = h.0 in let b = h.1 in let t = runs_at r.«end» hi rs k h.3 (omega arith) in (omega arith, t.1, t.2)
 
+-- nothing is seen yet
+pub ended_start : (q : ℕ → Bool) (n : ℕ) → n ≡ 0 → Ended q n 0 0 0
+ended_start q n e = record { counted = ap (tally q) (sym e); order = omega arith; ends = λ l. absurd (omega arith) }
+
 -- one word more
 pub ended_turn : (q : ℕ → Bool) (m n w : ℕ) (e r : Ends) → Ended q m e.count e.start e.«end» → n ≤ 64 → w ≡ number_of_bits (λ j. q (m + j)) n → r ≡ cond (eqb w 0) e (record { count = e.count + ones w; start = cond (eqb e.count 0) (m + count_trailing_zeros 64 w) e.start; «end» = m + (64 - count_leading_zeros 64 w) }) → Ended q (m + n) r.count r.start r.«end»
 ended_turn q m n w e r h few is f = ⊎_elim none some (cases_eq w 0)
