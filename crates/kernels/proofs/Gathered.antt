@@ -43,6 +43,12 @@ pub gather_gather : {T : Type 0} (vs : List T) (ps ks : List ℕ) → AllByRecur
 gather_gather vs ps [] h l = refl
 gather_gather vs ps (k ∷ ks) h l = rw (value_at_gather vs ps k h l.0, gather_gather vs ps ks h l.1) refl
 
+-- what a splice wrote
+pub piece_splice : {T : Type 0} (xs : List T) (at n : ℕ) (vs : List T) → at ≤ length xs → length vs ≡ n → take n (drop at (splice xs at vs)) ≡ vs
+piece_splice xs at n vs h e =
+    let front : length (take at xs) ≡ at = simp length-take (omega arith) in
+    ap (take n) (drop_at (take at xs) (vs ++ drop (at + length vs) xs) at front) ∙ take_at vs (drop (at + length vs) xs) n e
+
 pub gather_append : {T : Type 0} (vs : List T) (ps qs : List ℕ) → gather vs (ps ++ qs) ≡ gather vs ps ++ gather vs qs
 gather_append vs [] qs = refl
 gather_append vs (p ∷ ps) qs = ap (λ xs. value_at vs p ++ xs) (gather_append vs ps qs) ∙ sym (append_assoc (value_at vs p) (gather vs ps) (gather vs qs))
@@ -183,6 +189,10 @@ pub set_splice : {T : Type 0} (xs : List T) (at : ℕ) (y : T) → at < length x
 set_splice xs at y h =
     let e : at + 0 ≡ at = omega arith in
     sym (splice_more xs at 0 [] y refl (omega arith)) ∙ ap (λ n. set (splice xs at []) n y) e ∙ ap (λ zs. set zs at y) (splice_none xs at)
+
+-- the first value of a write, and the rest
+pub splice_first : {T : Type 0} (xs : List T) (at : ℕ) (y : T) (vs : List T) → at < length xs → splice xs at (y ∷ vs) ≡ splice (set xs at y) (at + 1) vs
+splice_first xs at y vs h = sym (splice_splice xs at 1 (y ∷ []) vs refl (omega arith)) ∙ ap (λ zs. splice zs (at + 1) vs) (set_splice xs at y h)
 
 -- a part of a slice, replaced by a part of another
 pub put_splice : {T : Type 0} (xs src out : List T) (at from n : ℕ) → from + n ≤ length src → out ≡ take (from + n - from) (drop from src) → take at xs ++ (out ++ drop (at + n - at) (drop at xs)) ≡ splice xs at (take n (drop from src))

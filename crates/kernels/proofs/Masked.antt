@@ -1,6 +1,7 @@
 -- The positions of a mask, word by word, and what is left of a compaction.
-use Rattle.std.proofs.Common.{◌≡◌, ℕ, zero, suc, ◌+◌, ◌-◌, ◌*◌, ◌/◌, ◌^◌, ◌<◌, ◌≤◌, Bool, true, false, ◌&&◌, ltb, List, [], ◌∷◌, ◌++◌, filter, Some, None, sym, refl, ap, ◌∙◌, subst, suc-add, arith, Bor}
+use Rattle.std.proofs.Common.{◌≡◌, ℕ, zero, suc, ◌+◌, ◌-◌, ◌*◌, ◌/◌, ◌%◌, ◌^◌, ◌<◌, ◌≤◌, Bool, true, false, ◌&&◌, ltb, List, [], ◌∷◌, ◌++◌, length, get_or, filter, Some, None, sym, refl, ap, ◌∙◌, subst, suc-add, arith, Bor}
 use Rattle.std.specs.List.{range_with_len, AllByRecursion}
+use Rattle.std.proofs.lemmas.List.FromFn.{length-range_with_len}
 use Rattle.std.proofs.lemmas.List.Elements.{filter-append}
 use Rattle.std.proofs.ByRecursion.{all_kept_by, All-weaker}
 use Rattle.std.proofs.lemmas.List.{append-nil}
@@ -8,7 +9,7 @@ use Rattle.std.proofs.lemmas.Bool.{and_right, lt-ltb, le-ltb}
 use Rattle.selection.specs.declared.windows.Window.{Window}
 use Rattle.selection.specs.Selected.{bit_of, window_bit, word_bit, word_of}
 use Rattle.selection.proofs.Bits.{bit_from}
-use Rattle.selection.proofs.Filtered.{kept_same}
+use Rattle.selection.proofs.Filtered.{kept_fewer_all, kept_same}
 use Rattle.selection.proofs.Rising.{rising_all, rising_counting}
 use Rattle.kernels.specs.declared.slice.MaskBits.{MaskBits}
 use Rattle.kernels.specs.declared.slice.MaskBits.TheVariants.{Words, Window as Framed}
@@ -87,6 +88,13 @@ pub positions_inside : (ws : List ℕ) (n : ℕ) → Inside n (mask_positions ws
 unfolding mask_positions
 positions_inside ws n = kept_inside (words_bit ws) n
 
+-- the bits of the word at a place
+pub word_bits : (ws : List ℕ) (k j : ℕ) → j < 64 → bit_of (get_or ws k 0) j ≡ words_bit ws (64 * k + j)
+word_bits ws k j l =
+    let a : k ≡ (64 * k + j) / 64 = omega arith in
+    let b : j ≡ (64 * k + j) % 64 = omega arith in
+    ap (λ x. bit_of (get_or ws x 0) j) a ∙ ap (bit_of (get_or ws ((64 * k + j) / 64) 0)) b
+
 -- words as a mask
 pub words_mask : (ws : Bor (List ℕ)) (n : ℕ) → Covers ws.now n → Masks (Words ws n) n
 words_mask ws n h = record { long = refl; enough = h.enough; close = h.close; clear = h.clear }
@@ -94,6 +102,10 @@ words_mask ws n h = record { long = refl; enough = h.enough; close = h.close; cl
 pub words_selected : (ws : Bor (List ℕ)) (n : ℕ) → selected_by (Words ws n) ≡ mask_positions ws.now n
 unfolding selected_by mask_positions
 words_selected ws n = refl
+
+pub positions_fewer : (ws : List ℕ) (n : ℕ) → length (mask_positions ws n) ≤ n
+unfolding mask_positions
+positions_fewer ws n = let h = kept_fewer_all (words_bit ws) (range_with_len 0 n) in let e = length-range_with_len 0 n in omega arith
 
 -- words with the bits of a test
 pub positions_same : (ws : List ℕ) (q : ℕ → Bool) (n : ℕ) → ((i : ℕ) → i < n → words_bit ws i ≡ q i) → mask_positions ws n ≡ filter q (range_with_len 0 n)

@@ -1,7 +1,8 @@
 -- One turn of a walk over the runs of set bits of a word.
 use Rattle.std.proofs.Common.{◌≡◌, ℕ, zero, suc, ◌+◌, ◌-◌, ◌/◌, ◌%◌, ◌^◌, ◌<◌, ◌≤◌, ◌⊎◌, ◌++◌, sym, ap, ◌∙◌, subst, inl, inr, pow-suc, arith, shr-shr}
 use lib.Arith.{lt-one}
-use lib.Count.{count_trailing_zeros}
+use lib.Bits.{bit_and, and_le_l}
+use lib.Count.{ones, ones-le, count_trailing_zeros}
 use lib.Pow.{shr_le}
 use Rattle.std.specs.List.{range_with_len}
 use Rattle.std.proofs.lemmas.Nat.{trailing_le}
@@ -60,3 +61,7 @@ first_run w from n p h e =
       shrinks = omega arith;
       parts = bits_past_zeros 64 w from p h ∙ bits_ones 64 v (from + z) (omega arith) ∙ ap (λ m. range_with_len (from + z) m ++ set_bits 64 (v / 2 ^ m) (from + z + m)) (sym e) ∙ ap (λ x. range_with_len (from + z) n ++ set_bits 64 x (from + z + n)) rest;
     }
+
+-- some of the bits of a word are at most 64
+pub part_ones : (w x : ℕ) → w < 2 ^ 64 → ones (bit_and w x) ≤ 64
+part_ones w x h = let l = and_le_l w x in ones-le 64 (bit_and w x) (omega arith)
