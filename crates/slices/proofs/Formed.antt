@@ -7,7 +7,7 @@ use Rattle.selection.specs.declared.selections.Run.{Run}
 use Rattle.selection.specs.declared.selections.Selection.{Selection}
 use Rattle.selection.specs.declared.selections.Selection.TheVariants.{Bitmap, Indices, Runs}
 use Rattle.selection.specs.Selected.{Rising, RunsRise, extent, indices_fault, long, no_run, positions, range, runs_fault, selection_fault}
-use Rattle.selection.proofs.Listed.{index_rises, indices_pick, runs_pick_formed, runs_rise}
+use Rattle.selection.proofs.Listed.{index_rises, indices_pick, ranges_rise, runs_pick_formed, runs_rise}
 use Rattle.selection.proofs.Objections.{none_each}
 use Rattle.selection.proofs.Rising.{rising_all}
 use Rattle.kernels.specs.declared.slice.MaskBits.TheVariants.{Window as Framed}
@@ -56,6 +56,9 @@ run_at lo hi (r ∷ rs) (suc k) h l = run_at r.«end» hi rs k h.3 (omega arith)
 
 pub rising_inside : (n : ℕ) (xs : List ℕ) → Rising 0 n xs → Inside n xs
 rising_inside n xs h = All-weaker (λ p. (0 ≤ p) × (p < n)) (λ p. p < n) (λ p l. l.1) xs (rising_all 0 n xs h)
+
+pub ranges_inside : (n : ℕ) (rs : List Run) → RunsRise 0 n rs → Inside n (flat_map range rs)
+ranges_inside n rs h = rising_inside n (flat_map range rs) (ranges_rise 0 n rs h)
 
 -- indices that are not moved
 pub rising_within_64 : (n : ℕ) (xs : List ℕ) → n < 2 ^ 64 → Rising 0 n xs → AllByRecursion (Within 0 0 n) xs

@@ -1,7 +1,7 @@
 -- Bits as a number.
 use Rattle.std.proofs.Common.{◌≡◌, ℕ, zero, suc, ◌+◌, ◌*◌, ◌/◌, ◌%◌, ◌^◌, ◌<◌, ◌≤◌, Bool, true, false, cond, eqb, List, [], ◌∷◌, ◌++◌, length, get_or, take, drop, sym, refl, ap, ◌∙◌, ap₂, mul_assoc, mul_comm, pow-suc, arith}
 use native.Mathlib.Nat.{zero-div}
-use lib.Pow.{low}
+use lib.Pow.{low, high}
 use Rattle.std.proofs.lemmas.List.{length-take-le, take-append-drop}
 use Rattle.selection.specs.Selected.{bit_of}
 use Rattle.kernels.proofs.SetBits.{half_shr}
@@ -25,6 +25,9 @@ packed_append (x ∷ xs) ys =
 -- the low bits, and those above
 pub packed_low : (xs ys : List Bool) → packed (xs ++ ys) % 2 ^ length xs ≡ packed xs
 packed_low xs ys = ap (λ t. t % 2 ^ length xs) (packed_append xs ys) ∙ low (packed ys) (length xs) (packed_lt xs)
+
+pub packed_high : (xs ys : List Bool) → packed (xs ++ ys) / 2 ^ length xs ≡ packed ys
+packed_high xs ys = ap (λ t. t / 2 ^ length xs) (packed_append xs ys) ∙ high (packed ys) (length xs) (packed_lt xs)
 
 pub packed_take : (n : ℕ) (bs : List Bool) → n ≤ length bs → packed bs % 2 ^ n ≡ packed (take n bs)
 packed_take n bs h =

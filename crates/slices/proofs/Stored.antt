@@ -1,12 +1,12 @@
 -- Bits in bytes, and what an accumulator adds to them.
-use Rattle.std.proofs.Common.{◌≡◌, ℕ, zero, suc, ◌+◌, ◌-◌, ◌*◌, ◌/◌, ◌%◌, ◌^◌, ◌<◌, ◌≤◌, Bool, List, [], ◌∷◌, ◌++◌, length, take, drop, sym, refl, ap, ◌∙◌, subst, ap₂, lt_of_lt_of_le, add-zero, mod-eq_of_lt, mul_assoc, suc-add, arith, pow_pos, pow_mono, pow-add, shr-shr, shr_lt, MutBor}
+use Rattle.std.proofs.Common.{◌≡◌, ℕ, zero, suc, ◌+◌, ◌-◌, ◌*◌, ◌/◌, ◌%◌, ◌^◌, ◌<◌, ◌≤◌, Bool, List, [], ◌∷◌, ◌++◌, length, take, drop, set, sym, refl, ap, ◌∙◌, subst, ap₂, lt_of_lt_of_le, add-zero, mod-eq_of_lt, mul_assoc, suc-add, arith, pow_pos, pow_mono, pow-add, shr-shr, shr_lt, MutBor}
 use native.Mathlib.Nat.{div-div-eq-div-mul, mul-add-div_right}
 use lib.Bits.{bit_or}
 use lib.Pow.{high, low, mod-pow-add, shl-shr, split}
 use Rattle.std.proofs.lemmas.Nat.{or_comm, or_shifted}
 use Rattle.std.proofs.lemmas.List.{append_assoc, append-nil, drop-drop, length-append, take_at}
 use Rattle.kernels.specs.Moved.{splice}
-use Rattle.kernels.proofs.Gathered.{length_splice, splice_none, splice_splice}
+use Rattle.kernels.proofs.Gathered.{length_splice, splice_more, splice_none, splice_splice}
 use Rattle.slices.specs.declared.accumulator.Accumulator.{Accumulator}
 use Rattle.slices.specs.Bits.{bit_bytes, bytes_for, low_bytes, packed}
 use Rattle.slices.specs.Accumulated.{Adds, Holds, Room}
@@ -42,6 +42,10 @@ low_above (suc n) y x =
 
 pub low_mod : (n x : ℕ) → low_bytes n (x % 2 ^ (8 * n)) ≡ low_bytes n x
 low_mod n x = sym (low_above n (x / 2 ^ (8 * n)) (x % 2 ^ (8 * n))) ∙ ap (low_bytes n) (split x (8 * n))
+
+-- one byte more
+pub low_more : (n x : ℕ) → low_bytes (n + 1) x ≡ low_bytes n x ++ (x / 2 ^ (8 * n) % 256 ∷ [])
+low_more n x = low_split n 1 x
 
 pub low_take : (n k x : ℕ) → n ≤ k → take n (low_bytes k x) ≡ low_bytes n x
 low_take n k x h =
@@ -157,6 +161,10 @@ ends_all bs before out acc h e =
     ∙ ap (λ t. splice (splice before 0 (low_bytes a p)) t (low_bytes (bytes_for acc.fill) (p / 2 ^ (8 * a)))) here
     ∙ splice_splice before 0 a (low_bytes a p) (low_bytes (bytes_for acc.fill) (p / 2 ^ (8 * a))) (length_low a p) (omega arith)
     ∙ ap (splice before 0) (sym (low_split a (bytes_for acc.fill) p) ∙ ap (λ n. low_bytes n p) all)
+
+-- one byte more of what is left
+pub end_more : (out : List ℕ) (at k low : ℕ) → at + k < length out → set (splice out at (low_bytes k low)) (at + k) (low / 2 ^ (8 * k) % 256) ≡ splice out at (low_bytes (k + 1) low)
+end_more out at k low h = splice_more out at k (low_bytes k low) (low / 2 ^ (8 * k) % 256) (length_low k low) h ∙ ap (splice out at) (sym (low_more k low))
 
 -- nothing is held at first
 pub holds_none : (before : List ℕ) (acc : Accumulator) → acc.out.now ≡ before → acc.low ≡ 0 → acc.fill ≡ 0 → acc.at ≡ 0 → Holds [] before acc
