@@ -55,6 +55,9 @@ answer_is t p = refl
 pub answer_by : (t : Terms) (p : Push) (s : Selection) (fault : Option Refusal) (is : List ℕ) → p.selection ≡ s → fault ≡ selection_fault s → is ≡ positions s → answer_to t p.offset fault is ≡ answer t p
 answer_by t p s fault is form e f = ap₂ (answer_to t p.offset) (e ∙ ap selection_fault (sym form)) (f ∙ ap positions (sym form)) ∙ sym (answer_is t p)
 
+pub not_long : (n : ℕ) → long n ≡ None → n ≤ 16777216
+not_long n e = ltb-false 16777216 n (when_none _ _ e)
+
 -- a list is refused for its length, or else for its items
 module _ (n : ℕ) (o : Option Refusal) where
   too_long : (e : Refusal) → long n ≡ Some e → first_of (long n ∷ o ∷ []) ≡ Some e
