@@ -1,7 +1,8 @@
 //! The items of a list, indices or runs, checked one by one.
-ghost use Rattle.std.specs.Prelude.{◌≡◌, ◌^◌, ◌<◌, length, map};
+ghost use Rattle.std.specs.Prelude.{◌≡◌, ◌+◌, ◌^◌, ◌<◌, ◌||◌, leb, [], ◌∷◌, length, map, nat_le, nat_lt};
 ghost use Rattle.selection.specs.declared.selections.Run.{Run};
-ghost use Rattle.selection.specs.Refusals.{answered};
+ghost use Rattle.selection.specs.declared.refusals.Refusal.TheVariants.{Order as Unordered, Past as Reaching};
+ghost use Rattle.selection.specs.Refusals.{answered, first_of, when};
 ghost use Rattle.selection.specs.Selected.{long};
 ghost use Rattle.selection.specs.Items.{item_fault, listed_fault, listed_positions, single};
 
@@ -88,6 +89,22 @@ pub fn check_len(len: u64) -> Result<(), Refusal>
         return Err(Refusal::Long);
     }
     Ok(())
+}
+
+/// Refuses the index at a place if it is below the least that may stand there or reaches the length, and
+/// answers the least that may come next.
+pub fn check_index(index: u64, place: usize, least: u64, len: u64) -> Result<u64, Refusal>
+    ensures { result ≡ answered (first_of (when (nat_lt index least) (Unordered place) ∷ when (nat_le len index) (Reaching place) ∷ [])) (index + 1) }
+{
+    index.check(place, least, len)
+}
+
+/// Refuses the run at a place if it is empty, starts below the least that may stand there or passes the length,
+/// and answers the least start that may come next.
+pub fn check_run(run: Run, place: usize, least: u64, len: u64) -> Result<u64, Refusal>
+    ensures { result ≡ answered (first_of (when (nat_lt run.start least || leb run.«end» run.start) (Unordered place) ∷ when (nat_lt len run.«end») (Reaching place) ∷ [])) run.«end» }
+{
+    run.check(place, least, len)
 }
 
 /// The number of positions in the items, or the first item that does not ascend or passes the length.

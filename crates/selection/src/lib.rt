@@ -8,7 +8,7 @@ mod refusals;
 mod selections;
 mod windows;
 
-pub use items::{Item, check_len};
+pub use items::{Item, check_index, check_len, check_run};
 pub use loads::{bits_at, field_at};
 pub use ranges::contiguous_filter_range;
 pub use refusals::Refusal;
