@@ -132,7 +132,7 @@ module _ {T : Type 0} (L : ℕ) (s : Store T) (pos c : ℕ) (js : List ℕ) (ok 
   count : length (map (place_in c) js) ≡ length js
   count = length-map js (place_in c)
 
-  below : AllByRecursion (λ j. j < 1024) js
+  pub below : AllByRecursion (λ j. j < 1024) js
   below =
       All-weaker (λ j. (1024 * c ≤ place_in c j) × (place_in c j < 1024 * c + 1024)) (λ j. j < 1024) (λ j l. omega arith) js
       (all_of_map (λ p. (1024 * c ≤ p) × (p < 1024 * c + 1024)) (place_in c) js (rising_all (1024 * c) (1024 * c + 1024) (map (place_in c) js) ok.rising))
@@ -180,11 +180,11 @@ module _ {T : Type 0} (L : ℕ) (s : Store T) (pos c : ℕ) (js : List ℕ) (ok 
       }
 
 -- ascending indices of one chunk at an offset
-pub inside : {T : Type 0} (L : ℕ) (s : Store T) (pos c offset : ℕ) (is : List ℕ) → Servable (offered L s pos) c (at offset is) → Whole s.readings → AllByRecursion (Within offset (c * 1024) 1024) is
-inside L s pos c offset is ok whole =
+pub inside : {T : Type 0} (L : ℕ) (s : Store T) (pos c offset : ℕ) (is : List ℕ) → Servable (offered L s pos) c (at offset is) → Whole s.readings → (m : ℕ) → 1024 ≤ m → AllByRecursion (Within offset (c * 1024) m) is
+inside L s pos c offset is ok whole m h =
     let chunk = ok.chunk in
     let few = whole.1 in
-    All-weaker (λ i. (1024 * c ≤ moved offset i) × (moved offset i < 1024 * c + 1024)) (Within offset (c * 1024) 1024) (λ i l. record { fits = omega arith; above = omega arith; below = omega arith }) is
+    All-weaker (λ i. (1024 * c ≤ moved offset i) × (moved offset i < 1024 * c + 1024)) (Within offset (c * 1024) m) (λ i l. record { fits = omega arith; above = omega arith; below = omega arith }) is
     (all_of_map (λ p. (1024 * c ≤ p) × (p < 1024 * c + 1024)) (moved offset) is (rising_all (1024 * c) (1024 * c + 1024) (at offset is) ok.rising))
 
 pub back : (c offset : ℕ) (is : List ℕ) → AllByRecursion (Within offset (c * 1024) 1024) is → map (place_in c) (map (shifted offset (c * 1024)) is) ≡ at offset is
@@ -200,6 +200,10 @@ back_plain t c ys ok =
 -- what was written to the first places of a buffer
 pub picked_is : (out before vs : List ℕ) (n : ℕ) → out ≡ splice before 0 vs → length vs ≡ n → take (n - 0) out ≡ vs
 picked_is out before vs n e h = let all : length vs ≡ n - 0 = omega arith in ap (take (n - 0)) e ∙ take_at vs (drop (0 + length vs) before) (n - 0) all
+
+-- a filter with places to serve has not written past its output
+pub written_within : {T : Type 0} (L : ℕ) (s : Store T) (pos c : ℕ) (ys : List ℕ) → Servable (offered L s pos) c ys → pos + length ys ≤ length s.output
+written_within L s pos c ys ok = let a = ok.some in let b = ok.fits in omega arith
 
 -- how far a walk over places has served them: s is where it began, and t where it is
 pub record Serves {T : Type 0} (L : ℕ) (s t : Store T) (pos : ℕ) (ps : List ℕ) (i : ℕ) : Type 0 where

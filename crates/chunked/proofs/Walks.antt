@@ -114,7 +114,7 @@ module _ {D T : Type 0} (L : ℕ) (readings : D → List T) (allowance : D → �
           let rise = rising_shifted offset 0 16777216 is up in
           let mid : between i (i + n) (at offset is) ≡ at offset here = sym (between_at offset is i (i + n)) ∙ ap (at offset) part in
           let servable : Servable (offers L readings allowance e) c (at offset here) = subst (Servable (offers L readings allowance e) c) mid (walk_servable L readings allowance d (at offset is) e i h.walk (i + n) c _ _ k rise ok (whole d.source.now) room) in
-          let inside' = inside L (held readings allowance e) e.at c offset here servable (whole e.source.now) in
+          let inside' = inside L (held readings allowance e) e.at c offset here servable (whole e.source.now) 1024 (omega arith) in
           let again = back c offset here inside' in
           let more = k.more in
           let size = ap length back' ∙ length-drop n rest in

@@ -97,6 +97,10 @@ kept_from q offset a b base e =
 pub words_back : (ws : List ℕ) (n chunk up : ℕ) → map (place_in chunk) (map (shifted up 0) (mask_positions ws n)) ≡ map (moved (chunk * 1024 + up)) (mask_positions ws n)
 words_back ws n chunk up = map_map (place_in chunk) (shifted up 0) (mask_positions ws n) ∙ map_same (λ i. place_in chunk (shifted up 0 i)) (moved (chunk * 1024 + up)) (mask_positions ws n) (All-weaker (λ i. i < n) (λ i. place_in chunk (shifted up 0 i) ≡ moved (chunk * 1024 + up) i) (λ i _. omega arith) (mask_positions ws n) (positions_inside ws n))
 
+-- and their indices from the places
+pub words_down : (ws : List ℕ) (n chunk up : ℕ) → map (shifted up 0) (mask_positions ws n) ≡ map (shifted 0 (chunk * 1024)) (map (moved (chunk * 1024 + up)) (mask_positions ws n))
+words_down ws n chunk up = map_same (shifted up 0) (λ i. shifted 0 (chunk * 1024) (moved (chunk * 1024 + up) i)) (mask_positions ws n) (All-weaker (λ i. i < n) (λ i. shifted up 0 i ≡ shifted 0 (chunk * 1024) (moved (chunk * 1024 + up) i)) (λ i _. omega arith) (mask_positions ws n) (positions_inside ws n)) ∙ sym (map_map (shifted 0 (chunk * 1024)) (moved (chunk * 1024 + up)) (mask_positions ws n))
+
 -- words that were loaded from a window, as places
 pub loaded_places : (w : Window) (ws : Bor (List ℕ)) (offset a b chunk up : ℕ) → up ≡ a + offset - chunk * 1024 → chunk * 1024 ≤ a + offset → mask_positions ws.now (b - a) ≡ filter (window_from w a) (range_with_len 0 (b - a)) → map (place_in chunk) (map (shifted up 0) (selected_by (Words ws (b - a)))) ≡ at offset (kept_between_places (window_bit w) a b)
 loaded_places w ws offset a b chunk up e low picks =
