@@ -3,4 +3,6 @@
 
 mod settle;
 
-pub use settle::{Push, Receipt, Terms, chunk_boundary, settle_push};
+pub use settle::{
+    Push, Receipt, Terms, chunk_boundary, settle_bitmap, settle_indices, settle_push, settle_runs,
+};

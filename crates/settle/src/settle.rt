@@ -10,7 +10,7 @@ ghost use Rattle.settle.specs.Bounds.{boundary};
 ghost use Rattle.settle.specs.Tallies.{Tallied};
 ghost use Rattle.settle.specs.Pushes.{answer, answer_to, fee as fee_under, grant_fault, moved, past_source, receipt, room_fault};
 
-use selection::{Item, Refusal, Selection, Window, check_len};
+use selection::{Item, Refusal, Run, Selection, Window, check_len};
 use source::CHUNK;
 
 /// A selection, and what is added to each of its positions.
@@ -233,7 +233,7 @@ fn price_bitmap(terms: &Terms, offset: u64, window: Window<'_>) -> Result<Receip
 }
 
 /// What a push of a bitmap will answer.
-fn settle_bitmap(terms: &Terms, offset: u64, window: Window<'_>) -> Result<Receipt, Refusal>
+pub fn settle_bitmap(terms: &Terms, offset: u64, window: Window<'_>) -> Result<Receipt, Refusal>
     ensures { result ≡ answer terms.now (record { offset = offset; selection = Bitmap window.entry }) }
 {
     window.check()?;
@@ -242,13 +242,32 @@ fn settle_bitmap(terms: &Terms, offset: u64, window: Window<'_>) -> Result<Recei
     terms.grant(receipt.count, receipt.fee)
 }
 
+/// What a push of an index list will answer.
+pub fn settle_indices(
+    terms: &Terms,
+    offset: u64,
+    indices: &[u64],
+    len: u64,
+) -> Result<Receipt, Refusal>
+    ensures { result ≡ answer terms.now (record { offset = offset; selection = Indices indices.entry len }) }
+{
+    settle_items(terms, offset, indices, len)
+}
+
+/// What a push of a run list will answer.
+pub fn settle_runs(terms: &Terms, offset: u64, runs: &[Run], len: u64) -> Result<Receipt, Refusal>
+    ensures { result ≡ answer terms.now (record { offset = offset; selection = Runs runs.entry len }) }
+{
+    settle_items(terms, offset, runs, len)
+}
+
 /// What a push will answer, in whichever form it comes.
 pub fn settle_push(terms: &Terms, push: Push<'_>) -> Result<Receipt, Refusal>
     ensures { result ≡ answer terms.now push.entry }
 {
     match push.selection {
         Selection::Bitmap(window) => settle_bitmap(terms, push.offset, window),
-        Selection::Indices { indices, len } => settle_items(terms, push.offset, indices, len),
-        Selection::Runs { runs, len } => settle_items(terms, push.offset, runs, len),
+        Selection::Indices { indices, len } => settle_indices(terms, push.offset, indices, len),
+        Selection::Runs { runs, len } => settle_runs(terms, push.offset, runs, len),
     }
 }
