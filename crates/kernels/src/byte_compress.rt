@@ -1,6 +1,6 @@
 //! Compaction by a table of bytes.
 ghost use Rattle.std.specs.Prelude.{◌≡◌, ◌<◌, ◌≤◌, length, slice_index};
-ghost use Rattle.kernels.specs.Masks.{Masks, compacted, row_of, selected_by, set_bits};
+ghost use Rattle.kernels.specs.Masks.{Covers, Masks, compacted, mask_positions, row_of, selected_by, set_bits};
 ghost use Rattle.kernels.specs.Ordered.{InOrder};
 
 use super::compaction::{WordStep, compact};
@@ -132,6 +132,19 @@ fn put_row<P: Target>(byte: u8, base: usize, target: &mut P)
     for place in &row[..usize::from(row[8])] {
         target.put(base + usize::from(*place));
     }
+}
+
+/// Copies the selected elements of `src` to the first places of `dst`, and says how many there are.
+/// The table says which elements a byte selects.
+#[tactic(auto, using(crate::proofs::Masked::words_selected))]
+pub fn compress_words<T: Copy>(src: &[T], words: &[u64], dst: &mut [T]) -> usize
+    requires mask { Covers words.now (length src.now) }
+    requires room { length (mask_positions words.now (length src.now)) ≤ length dst.old }
+    ensures count { result ≡ length (mask_positions words.now (length src.now)) }
+    ensures written { dst.new ≡ compacted src.now (mask_positions words.now (length src.now)) dst.old }
+{
+    let len = src.len();
+    compress_bits(src, MaskBits::Words { words, len }, dst)
 }
 
 /// Copies the selected elements of `src` to the first places of `dst`, and says how many there are.

@@ -7,6 +7,13 @@ pub trait Element: Copy {
     const WIDTH: usize;
 
     ghost WIDTH: { ℕ };
+
+    /// `WIDTH`, as a call.
+    fn stated_width() -> usize
+        ensures { result ≡ WIDTH }
+    {
+        Self::WIDTH
+    }
 }
 
 /// What a lift reported: when, which lift, and which code.

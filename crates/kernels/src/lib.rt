@@ -12,7 +12,7 @@ mod slice;
 mod targets;
 
 pub use buffer::{compact_bits, compact_words};
-pub use byte_compress::{compress_bits, table_entry};
+pub use byte_compress::{compress_bits, compress_words, table_entry};
 pub use compaction::{compact_by_bitmap, compact_runs_by_bitmap, move_by_bitmap};
 pub use elements::{Element, Event, sparse_limit};
 pub use lists::list_words;
