@@ -1,11 +1,11 @@
 -- What a fetch asks and leaves.
-use Rattle.std.proofs.Common.{◌≡◌, ℕ, zero, suc, ◌+◌, ◌-◌, ◌*◌, ◌<◌, ◌≤◌, List, [], ◌∷◌, ◌++◌, map, length, get_or, take, drop, set, cond, Bool, true, false, Option, option_map, nat_le, slice_get, position, Some, None, Ok, Err, sym, refl, ap, subst, ◌∙◌, ap₂, add_assoc, arith}
+use Rattle.std.proofs.Common.{◌≡◌, ℕ, zero, suc, ◌+◌, ◌-◌, ◌*◌, ◌%◌, ◌<◌, ◌≤◌, List, [], ◌∷◌, ◌++◌, map, length, get_or, take, drop, set, cond, Bool, true, false, Option, option_map, nat_le, slice_get, position, Some, None, Ok, Err, sym, refl, ap, subst, ◌∙◌, ap₂, add_assoc, arith}
 use Rattle.std.specs.List.{position_from, range_with_len, AllByRecursion}
-use Rattle.std.proofs.lemmas.List.{append-nil, map_more, take_more_set}
+use Rattle.std.proofs.lemmas.List.{append-nil, map_more, take_all, take_more_set}
 use Rattle.std.proofs.lemmas.Iterator.Adapters.{position_from-zero}
 use Rattle.std.proofs.lemmas.Option.{get_or_from_slice_get, slice_get-get_or, slice_get_within}
 use Rattle.std.proofs.lemmas.List.FromFn.{get_or-map-range_with_len, get_or-range_with_len, length-map-range_with_len, length-range_with_len}
-use Rattle.std.proofs.ByRecursion.{All-weaker, All-get_or, All-from_get_or}
+use Rattle.std.proofs.ByRecursion.{All-map, All-weaker, All-get_or, All-from_get_or}
 use Rattle.std.proofs.lemmas.Bool.{leb-false, ltb-false, lt-leb, le-ltb}
 use Rattle.std.proofs.lemmas.Bool.Decides.{nat_tests}
 use Rattle.selection.specs.declared.refusals.Refusal.{Refusal}
@@ -13,10 +13,12 @@ use Rattle.selection.specs.declared.refusals.Refusal.TheVariants.{Index}
 use Rattle.selection.specs.Refusals.{first, first_of, or_else, when, answered, settled}
 use Rattle.selection.proofs.Objections.{none_first, none_when, none_each, none_of, when_none, first_none, answered_err, answered_ok}
 use Rattle.selection.proofs.Rising.{rising_all, rising_counting}
+use Rattle.selection.proofs.Filtered.{map_map}
 use Rattle.selection.proofs.Listed.{at_count}
 use Rattle.kernels.specs.Moved.{gather, splice, value_at}
-use Rattle.kernels.proofs.Gathered.{gather_append, gather_counting, value_at_is}
-use Rattle.source.specs.Fetched.{Held, chunks_of, delivered, fetch_fault, fetched, holding, index_fault, objections, place_in, whole_chunk}
+use Rattle.kernels.proofs.Gathered.{gather_append, gather_counting, gather_made, value_at_is, value_at_take}
+use Rattle.source.specs.Fetched.{Held, chunks_of, delivered, fetch_fault, fetched, holding, index_fault, objections, place_in, ramp_at, ramp_place, ramped, whole_chunk, whole_chunks, whole_part}
+use Rattle.source.specs.Parts.{ramp_length}
 
 pub index_fine : (is : List ℕ) (k : ℕ) → get_or is k 0 < 1024 → index_fault is k ≡ None
 index_fine is k h = grind (arith, nat_tests)
@@ -108,6 +110,22 @@ whole_places c = shift 1024 0 ∙ ap (λ a. range_with_len a 1024) (omega arith)
 pub whole_gathered : {T : Type 0} (xs : List T) (c : ℕ) → gather xs (map (place_in c) whole_chunk) ≡ take 1024 (drop (1024 * c) xs)
 whole_gathered xs c = ap (gather xs) (whole_places c) ∙ gather_counting xs 1024 (1024 * c)
 
+-- a slice of whole chunks is all of its whole chunks
+pub part_all : {T : Type 0} (xs : List T) → length xs % 1024 ≡ 0 → chunks_of xs ≤ 16384 → whole_part xs ≡ xs
+unfolding whole_part
+part_all xs even few = take_all (1024 * whole_chunks xs) xs (omega arith)
+
+-- values of the whole chunks are those of the slice
+pub part_gather : {T : Type 0} (xs : List T) (ps : List ℕ) → AllByRecursion (λ p. p < 1024 * whole_chunks xs) ps → gather (whole_part xs) ps ≡ gather xs ps
+unfolding whole_part
+part_gather xs [] h = refl
+part_gather xs (p ∷ ps) h = ap₂ (λ v vs. v ++ vs) (value_at_take xs (1024 * whole_chunks xs) p h.0) (part_gather xs ps h.1)
+
+pub part_chunk : {T : Type 0} (xs : List T) (c : ℕ) → c < whole_chunks xs → gather (whole_part xs) (map (place_in c) whole_chunk) ≡ take 1024 (drop (1024 * c) xs)
+part_chunk xs c h =
+    part_gather xs (map (place_in c) whole_chunk) (All-map (λ p. p < 1024 * whole_chunks xs) (place_in c) whole_chunk (All-weaker (λ i. i < 1024) (λ i. place_in c i < 1024 * whole_chunks xs) (λ i l. omega arith) whole_chunk whole_below))
+    ∙ whole_gathered xs c
+
 pub whole_get : (k : ℕ) → k < 1024 → get_or whole_chunk k 0 ≡ k
 unfolding whole_chunk
 whole_get k h = get_or-range_with_len 0 1024 k 0 h ∙ omega arith
@@ -146,3 +164,13 @@ pub made_get : {T : Type 0} (f : ℕ → T) (n p : ℕ) → p < n → slice_get 
 made_get f n p h =
     let size = length-map-range_with_len f 0 n in
     slice_get-get_or (map f (range_with_len 0 n)) p (f p) (omega arith) ∙ ap Some (get_or-map-range_with_len f 0 n p p (f p) h (omega arith))
+
+pub ramp_chunks : (start step chunks : ℕ) → chunks_of (ramped start step (1024 * chunks)) ≡ chunks
+ramp_chunks start step chunks = let n = ramp_length start step (1024 * chunks) in omega arith
+
+-- the readings of a ramp at some indices of a chunk
+pub ramp_gathered : (start step chunks c : ℕ) (is : List ℕ) → c < chunks → AllByRecursion (λ i. i < 1024) is → gather (ramped start step (1024 * chunks)) (map (place_in c) is) ≡ map (ramp_place start step c) is
+unfolding ramped
+ramp_gathered start step chunks c is l h =
+    gather_made (ramp_at start step) (1024 * chunks) (map (place_in c) is) (All-map (λ p. p < 1024 * chunks) (place_in c) is (All-weaker (λ i. i < 1024) (λ i. place_in c i < 1024 * chunks) (λ i k. omega arith) is h))
+    ∙ map_map (ramp_at start step) (place_in c) is

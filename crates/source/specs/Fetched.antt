@@ -58,7 +58,7 @@ delivered h c is = record {
 unfoldable pub fetched : {T : Type 0} → Held T → ℕ → List ℕ → Held T
 fetched h c is = settled (fetch_fault h c is) h (delivered h c is)
 
--- the whole chunks of a slice, and not too many of them
+-- the readings of a slice: its whole chunks, and not too many of them
 abbrev pub whole_chunks : {T : Type 0} → List T → ℕ
 whole_chunks xs = min (chunks_of xs) 16384
 

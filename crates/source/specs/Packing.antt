@@ -13,11 +13,11 @@ use Rattle.source.specs.Parts.{made_length, made_whole}
 abbrev pub reading_at : List ℕ → ℕ → ℕ → ℕ
 reading_at bs w i = bits_from bs (i * w) w
 
--- the readings of a packed source of n chunks
+-- the readings of n chunks
 abbrev pub unpacked : List ℕ → ℕ → ℕ → List ℕ
 unpacked bs w n = map (reading_at bs w) (range_with_len 0 (1024 * n))
 
--- no wider than 32 bits, and not too many
+-- the readings of a packed source: no wider than 32 bits, and not too many
 unfoldable pub packed_readings : List ℕ → ℕ → ℕ → List ℕ
 packed_readings bs w n = unpacked bs (min w 32) (min n 16384)
 
@@ -36,4 +36,5 @@ pub packed_chunks : (bs : List ℕ) (w n : ℕ) → chunks_of (packed_readings b
 packed_chunks bs w n = let size = packed_length bs w n in omega arith
 
 pub packed_whole : (bs : List ℕ) (w n : ℕ) → Whole (packed_readings bs w n)
-packed_whole bs w n = let size = packed_length bs w n in let c = packed_chunks bs w n in (omega arith, omega arith)
+unfolding packed_readings
+packed_whole bs w n = unpacked_whole bs (min w 32) (min n 16384) (omega arith)

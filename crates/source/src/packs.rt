@@ -1,6 +1,6 @@
 //! Readings of a few bits each, packed in borrowed bytes.
 ghost use Rattle.std.specs.Prelude.{◌≡◌, ◌≤◌, IfOk, IfErr, Some, None};
-ghost use Rattle.source.specs.Packing.{packed_fault, unpacked, unpacked_whole};
+ghost use Rattle.source.specs.Packing.{packed_fault, packed_readings, packed_whole, unpacked};
 
 use super::decoder::{ChunkDecoder, MAX_CHUNKS};
 use super::metered::Metered;
@@ -26,7 +26,7 @@ pub struct Bits<'a> {
 impl<'a> Packed<'a> {
     /// A source of the readings that lie in the bytes, with an allowance.
     pub fn new(bytes: &'a [u8], width: u32, chunks: u64, allowance: u64) -> Result<Self, Refusal>
-        ensures made { IfOk result (λ p. (packed_fault bytes.now width chunks ≡ None) × (p.readings.bytes.now ≡ bytes.now) × (p.readings.width ≡ width) × (p.readings.chunks ≡ chunks) × (p.left ≡ allowance)) }
+        ensures made { IfOk result (λ p. (packed_fault bytes.now width chunks ≡ None) × (p.readings.bytes.now ≡ bytes.now) × (p.readings.width ≡ width) × (p.readings.chunks ≡ chunks) × (p.left ≡ allowance) × (packed_readings p.readings.bytes.now p.readings.width p.readings.chunks ≡ unpacked bytes.now width chunks)) }
         ensures source { IfOk result (λ p. (⟦<Self as ChunkDecoder>⟧.readings p ≡ unpacked bytes.now width chunks) × (⟦<Self as ChunkDecoder>⟧.allowance p ≡ allowance)) }
         ensures refused { IfErr result (λ e. packed_fault bytes.now width chunks ≡ Some e) }
     {
@@ -51,9 +51,9 @@ impl<'a> Packed<'a> {
 impl<'a> Readings for Bits<'a> {
     type Item = u32;
 
-    ghost all = { λ p. unpacked p.bytes.now p.width p.chunks };
+    ghost all = { λ p. packed_readings p.bytes.now p.width p.chunks };
 
-    ghost whole = { λ p. unpacked_whole p.bytes.now p.width p.chunks p.few };
+    ghost whole = { λ p. packed_whole p.bytes.now p.width p.chunks };
 
     fn chunks(self) -> u64 {
         self.chunks

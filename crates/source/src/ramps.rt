@@ -1,6 +1,7 @@
 //! Readings that are computed.
-ghost use Rattle.std.specs.Prelude.{◌≡◌, ◌*◌, ◌≤◌, IfOk, IfErr, Some, None};
-ghost use Rattle.source.specs.Fetched.{ramp_fault, ramped};
+ghost use Rattle.std.specs.Prelude.{◌≡◌, ℕ, ◌*◌, ◌<◌, ◌≤◌, List, All, map, IfOk, IfErr, Some, None};
+ghost use Rattle.kernels.specs.Moved.{gather};
+ghost use Rattle.source.specs.Fetched.{place_in, ramp_fault, ramp_place, ramped};
 ghost use Rattle.source.specs.Parts.{ramp_whole};
 
 use super::decoder::{CHUNK, ChunkDecoder, MAX_CHUNKS};
@@ -25,6 +26,7 @@ impl Ramp {
     pub fn new(start: u64, step: u64, chunks: u64, allowance: u64) -> Result<Self, Refusal>
         ensures made { IfOk result (λ t. (ramp_fault chunks ≡ None) × (t.readings.start ≡ start) × (t.readings.step ≡ step) × (t.readings.chunks ≡ chunks) × (t.left ≡ allowance)) }
         ensures source { IfOk result (λ t. (⟦<Self as ChunkDecoder>⟧.readings t ≡ ramped start step (1024 * chunks)) × (⟦<Self as ChunkDecoder>⟧.allowance t ≡ allowance)) }
+        ensures places { IfOk result (λ t. (c : ℕ) (is : List ℕ) → c < chunks → All (λ i. i < 1024) is → gather (⟦<Self as ChunkDecoder>⟧.readings t) (map (place_in c) is) ≡ map (ramp_place start step c) is) }
         ensures refused { IfErr result (λ e. ramp_fault chunks ≡ Some e) }
     {
         if chunks > MAX_CHUNKS {

@@ -1,6 +1,7 @@
 //! Readings that lie in the caller's memory.
 ghost use Rattle.std.specs.Prelude.{◌≡◌, IfOk, IfErr, Some, None};
-ghost use Rattle.source.specs.Fetched.{Whole, table_fault};
+ghost use Rattle.source.specs.Fetched.{Whole, table_fault, whole_part};
+ghost use Rattle.source.specs.Parts.{part_whole};
 
 use super::decoder::{CHUNK, ChunkDecoder, MAX_CHUNKS};
 use super::metered::Metered;
@@ -32,7 +33,7 @@ impl<'a, T: Copy> Clone for Lent<'a, T> {
 impl<'a, T: Element> Table<'a, T> {
     /// A source of the slice's elements, with an allowance.
     pub fn new(lent: &'a [T], allowance: u64) -> Result<Self, Refusal>
-        ensures made { IfOk result (λ t. (table_fault lent.now ≡ None) × (t.readings.lent.now ≡ lent.now) × (t.left ≡ allowance)) }
+        ensures made { IfOk result (λ t. (table_fault lent.now ≡ None) × (t.readings.lent.now ≡ lent.now) × (whole_part t.readings.lent.now ≡ lent.now) × (t.left ≡ allowance)) }
         ensures source { IfOk result (λ t. (⟦<Self as ChunkDecoder>⟧.readings t ≡ lent.now) × (⟦<Self as ChunkDecoder>⟧.allowance t ≡ allowance)) }
         ensures refused { IfErr result (λ e. table_fault lent.now ≡ Some e) }
     {
@@ -50,9 +51,9 @@ impl<'a, T: Element> Table<'a, T> {
 impl<'a, T: Element> Readings for Lent<'a, T> {
     type Item = T;
 
-    ghost all = { λ s. s.lent.now };
+    ghost all = { λ s. whole_part s.lent.now };
 
-    ghost whole = { λ s. s.whole };
+    ghost whole = { λ s. part_whole s.lent.now };
 
     fn chunks(self) -> u64 {
         self.lent.len() as u64 / CHUNK

@@ -1,8 +1,6 @@
-use Rattle.std.proofs.Common.{arith}
-use Rattle.source.specs.Fetched.{ramp_at, ramped}
-use Rattle.source.specs.Parts.{made_length}
+use Rattle.std.proofs.Common.{sym}
+use Rattle.source.proofs.Fetches.{ramp_chunks}
 use Rattle.source.proofs.ramps.StepsReadings.chunks.Goals as goal
 
 pub returns : goal.returns
-unfolding ramped
-returns c = let r = c.args.self in let size = made_length (ramp_at r.start r.step) r.chunks in omega arith
+returns c = let r = c.args.self in sym (ramp_chunks r.start r.step r.chunks)
