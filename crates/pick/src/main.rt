@@ -12,10 +12,11 @@ use source::{ChunkDecoder, Ramp, Table};
 use std::alloc::{AllocError, Global};
 
 fn show_reading(rt: &HostRuntime, event: &Event) -> anyhow::Result<()> {
-    print!(rt; "  second {}, lift {}: ", event.time, event.lift)?;
+    let time = event.time;
+    let lift = event.lift;
     match Door::try_from(event.code) {
-        Ok(door) => println!(rt; "{door}")?,
-        Err(code) => println!(rt; "{code}")?,
+        Ok(door) => println!(rt; "  second {time}, lift {lift}: {door}")?,
+        Err(code) => println!(rt; "  second {time}, lift {lift}: {code}")?,
     }
     Ok(())
 }
@@ -62,11 +63,10 @@ impl<D: ChunkDecoder<Item = Event>> Picks<'_, D> {
         Ok(())
     }
 
-    /// A pick of the seconds from `start` up to and without `end`, which are fetched by whole chunks.
-    fn show_stretch(&mut self, what: &str, start: u64, end: u64) -> anyhow::Result<()> {
-        let seconds = stretch(self.rt.alloc(), start, end)?;
+    /// A pick of a whole stretch, which is fetched by whole chunks.
+    fn show_stretch(&mut self, what: &str, seconds: &[u64]) -> anyhow::Result<()> {
         let before = self.filter.written() as usize;
-        self.push(what, 0, &seconds, SECONDS)?;
+        self.push(what, 0, seconds, SECONDS)?;
         let after = self.filter.written() as usize;
         if let Some(summary) = self.output.get(before..after).and_then(Summary::of) {
             println!(self.rt; "  {summary}")?;
@@ -253,9 +253,11 @@ fn run(rt: &HostRuntime) -> anyhow::Result<()> {
         output: vec![in heap; reading(0); 2048]?,
         scratch: vec![in heap; reading(0); 1024]?,
     };
+    let minutes = stretch(heap, 1440, 1620)?;
+    let chunk = stretch(heap, 1024, 2048)?;
     picks.show_gap()?;
-    picks.show_stretch("three minutes", 1440, 1620)?;
-    picks.show_stretch("a whole chunk", 1024, 2048)?;
+    picks.show_stretch("three minutes", &minutes)?;
+    picks.show_stretch("a whole chunk", &chunk)?;
     picks.show_refusals()?;
     picks.show_totals()?;
     show_forms(rt)
