@@ -12,11 +12,9 @@ use source::{ChunkDecoder, Ramp, Table};
 use std::alloc::{AllocError, Global};
 
 fn show_reading(rt: &HostRuntime, event: &Event) -> anyhow::Result<()> {
-    let time = event.time;
-    let lift = event.lift;
     match Door::try_from(event.code) {
-        Ok(door) => println!(rt; "  second {time}, lift {lift}: {door}")?,
-        Err(code) => println!(rt; "  second {time}, lift {lift}: {code}")?,
+        Ok(door) => println!(rt; "  second {}, lift {}: {door}", event.time, event.lift)?,
+        Err(code) => println!(rt; "  second {}, lift {}: {code}", event.time, event.lift)?,
     }
     Ok(())
 }
